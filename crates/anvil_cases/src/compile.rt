@@ -1,0 +1,265 @@
+//! The command `compile`.
+use crate::bench::{Faults, NO_FAULTS, run};
+use anvil_tool::Status;
+use std::test::Fail;
+
+const COUNTER: &[u8] = b"proc c() { reg a : logic[8]; loop { set a := *a + 8'd1 >> cycle 2 } }";
+
+const USAGE: &[u8] = b"usage: anvil compile FILE\n";
+
+const NOT_BUILT: &[u8] = b"refused: NotBuilt\n";
+
+/// The module of `COUNTER`, line by line.
+const MODULE: [&[u8]; 40] = [
+    b"module anvil__c (\n",
+    b"  input logic clk_i,\n",
+    b"  input logic rst_ni\n",
+    b");\n",
+    b"  logic [7:0] a__q;\n",
+    b"  logic [0:0] s__0;\n",
+    b"  logic [0:0] s__1;\n",
+    b"  logic [1:0] s__2;\n",
+    b"  logic [0:0] n__0;\n",
+    b"  assign n__0 = s__2 == 2'd1;\n",
+    b"  logic [0:0] n__1;\n",
+    b"  assign n__1 = ~s__0;\n",
+    b"  logic [0:0] n__2;\n",
+    b"  assign n__2 = n__0 | n__1;\n",
+    b"  logic [7:0] n__3;\n",
+    b"  assign n__3 = a__q + 8'd1;\n",
+    b"  logic [7:0] n__4;\n",
+    b"  assign n__4 = n__2 ? n__3 : a__q;\n",
+    b"  logic [0:0] n__5;\n",
+    b"  assign n__5 = s__2 != 2'd0;\n",
+    b"  logic [1:0] n__6;\n",
+    b"  assign n__6 = s__2 - 2'd1;\n",
+    b"  logic [1:0] n__7;\n",
+    b"  assign n__7 = n__5 ? n__6 : 2'd0;\n",
+    b"  logic [1:0] n__8;\n",
+    b"  assign n__8 = s__1 ? 2'd2 : n__7;\n",
+    b"  always_ff @(posedge clk_i) begin\n",
+    b"    if (!rst_ni) begin\n",
+    b"      a__q <= 8'd0;\n",
+    b"      s__0 <= 1'd0;\n",
+    b"      s__1 <= 1'd0;\n",
+    b"      s__2 <= 2'd0;\n",
+    b"    end else begin\n",
+    b"      a__q <= n__4;\n",
+    b"      s__0 <= 1'd1;\n",
+    b"      s__1 <= n__2;\n",
+    b"      s__2 <= n__8;\n",
+    b"    end\n",
+    b"  end\n",
+    b"endmodule\n",
+];
+
+// Whether a text is the module's, or where `whole` is false a front part of it.
+fn is_module(text: &[u8], whole: bool) -> bool {
+    let mut rest = text;
+    for line in MODULE.iter() {
+        match rest.strip_prefix(*line) {
+            Some(after) => rest = after,
+            None => return !whole && line.starts_with(rest),
+        }
+    }
+    rest.is_empty()
+}
+
+#[test]
+fn the_counter_is_compiled(rt: HostRuntime) -> Result<(), Fail> {
+    let done = run(rt.alloc(), &["compile", "f"], COUNTER, NO_FAULTS)?;
+    assert!(rt; done.status == Status::Done);
+    assert!(rt; is_module(done.out.bytes(), true));
+    assert_eq!(rt; done.err.bytes(), b"".as_slice());
+    Ok(())
+}
+
+#[test]
+fn words_without_a_form(rt: HostRuntime) -> Result<(), Fail> {
+    let lists: [&[&str]; 10] = [
+        &["check", "x", "y"],
+        &[],
+        &["help"],
+        &["check", "-v"],
+        &["gen", "0"],
+        &["compile"],
+        &["compile", "-f"],
+        &["compile", ""],
+        &["compile", "f", "f"],
+        &["Compile", "f"],
+    ];
+    for words in lists.iter() {
+        let refused = run(rt.alloc(), words, COUNTER, NO_FAULTS)?;
+        assert!(rt; refused.status == Status::Usage, "{words:?}");
+        assert_eq!(rt; refused.out.bytes(), b"".as_slice());
+        assert_eq!(rt; refused.err.bytes(), USAGE);
+    }
+    Ok(())
+}
+
+#[test]
+fn files_that_are_not_plain(rt: HostRuntime) -> Result<(), Fail> {
+    let files: [(&str, &[u8]); 18] = [
+        ("empty", b""),
+        ("no register", b"proc c() { }"),
+        (
+            "no wait",
+            b"proc c() { reg a : logic[8]; loop { set a := *a + 8'd1 } }",
+        ),
+        (
+            "two line feeds",
+            b"proc c() { reg a : logic[8]; loop { set a := *a + 8'd1 >> cycle 2 } }\n\n",
+        ),
+        (
+            "width 65",
+            b"proc c() { reg a : logic[65]; loop { set a := *a + 65'd1 >> cycle 2 } }",
+        ),
+        (
+            "width 0",
+            b"proc c() { reg a : logic[0]; loop { set a := *a + 0'd0 >> cycle 2 } }",
+        ),
+        (
+            "cycle 0",
+            b"proc c() { reg a : logic[8]; loop { set a := *a + 8'd1 >> cycle 0 } }",
+        ),
+        (
+            "cycle 65536",
+            b"proc c() { reg a : logic[8]; loop { set a := *a + 8'd1 >> cycle 65536 } }",
+        ),
+        (
+            "a literal of 2^W",
+            b"proc c() { reg a : logic[8]; loop { set a := *a + 8'd256 >> cycle 2 } }",
+        ),
+        (
+            "a literal of 2^64",
+            b"proc c() { reg a : logic[64]; loop { set a := *a + 64'd18446744073709551616 >> cycle 2 } }",
+        ),
+        (
+            "a leading zero",
+            b"proc c() { reg a : logic[8]; loop { set a := *a + 8'd01 >> cycle 2 } }",
+        ),
+        (
+            "a keyword as a name",
+            b"proc loop() { reg a : logic[8]; loop { set a := *a + 8'd1 >> cycle 2 } }",
+        ),
+        (
+            "a name with __",
+            b"proc c() { reg a__b : logic[8]; loop { set a__b := *a__b + 8'd1 >> cycle 2 } }",
+        ),
+        (
+            "a name that ends with _",
+            b"proc c_() { reg a : logic[8]; loop { set a := *a + 8'd1 >> cycle 2 } }",
+        ),
+        (
+            "another register read",
+            b"proc c() { reg a : logic[8]; loop { set a := *b + 8'd1 >> cycle 2 } }",
+        ),
+        (
+            "widths that differ",
+            b"proc c() { reg a : logic[8]; loop { set a := *a + 9'd1 >> cycle 2 } }",
+        ),
+        (
+            "two spaces",
+            b"proc  c() { reg a : logic[8]; loop { set a := *a + 8'd1 >> cycle 2 } }",
+        ),
+        (
+            "a name of 65 bytes",
+            b"proc aaaaaaaaaabbbbbbbbbbccccccccccddddddddddeeeeeeeeeeffffffffffggggg() { reg a : logic[8]; loop { set a := *a + 8'd1 >> cycle 2 } }",
+        ),
+    ];
+    for (name, file) in files.iter() {
+        let refused = run(rt.alloc(), &["compile", "f"], file, NO_FAULTS)?;
+        assert!(rt; refused.status == Status::Refused, "{name}");
+        assert_eq!(rt; refused.out.bytes(), b"".as_slice());
+        assert_eq!(rt; refused.err.bytes(), NOT_BUILT);
+    }
+    Ok(())
+}
+
+#[test]
+fn files_at_the_limits_are_plain(rt: HostRuntime) -> Result<(), Fail> {
+    let files: [(&str, &[u8]); 4] = [
+        (
+            "a line feed",
+            b"proc c() { reg a : logic[8]; loop { set a := *a + 8'd1 >> cycle 2 } }\n",
+        ),
+        (
+            "width 64",
+            b"proc c() { reg a : logic[64]; loop { set a := *a + 64'd18446744073709551615 >> cycle 65535 } }",
+        ),
+        (
+            "width 1",
+            b"proc c() { reg a : logic[1]; loop { set a := *a + 1'd0 >> cycle 1 } }",
+        ),
+        (
+            "names of 64 bytes",
+            b"proc aaaaaaaaaabbbbbbbbbbccccccccccddddddddddeeeeeeeeeeffffffffffgggg() { reg Z_9 : logic[8]; loop { set Z_9 := *Z_9 + 8'd1 >> cycle 2 } }",
+        ),
+    ];
+    for (name, file) in files.iter() {
+        let done = run(rt.alloc(), &["compile", "f"], file, NO_FAULTS)?;
+        assert!(rt; done.status == Status::Done, "{name}");
+        assert_eq!(rt; done.err.bytes(), b"".as_slice());
+    }
+    Ok(())
+}
+
+#[test]
+fn loads_that_fail(rt: HostRuntime) -> Result<(), Fail> {
+    let absent = run(rt.alloc(), &["compile", "none"], COUNTER, NO_FAULTS)?;
+    assert!(rt; absent.status == Status::ReadFault);
+    assert_eq!(rt; absent.err.bytes(), b"read fault: none\n".as_slice());
+    let faults = Faults {
+        loads: &[0],
+        outs: &[],
+        errs: &[],
+    };
+    let failed = run(rt.alloc(), &["compile", "f"], COUNTER, faults)?;
+    assert!(rt; failed.status == Status::ReadFault);
+    assert_eq!(rt; failed.out.bytes(), b"".as_slice());
+    assert_eq!(rt; failed.err.bytes(), b"read fault: f\n".as_slice());
+    let spaces = Vec::from_elem(rt.alloc(), b' ', 1048577)?;
+    let long = run(rt.alloc(), &["compile", "f"], &spaces, NO_FAULTS)?;
+    assert!(rt; long.status == Status::TooLong);
+    assert_eq!(rt; long.err.bytes(), b"too long: f\n".as_slice());
+    let full = run(rt.alloc(), &["compile", "f"], &spaces[1..], NO_FAULTS)?;
+    assert!(rt; full.status == Status::Refused);
+    Ok(())
+}
+
+// The module goes to `out` in many puts. Whichever of them fails, a front part of it stands there, and nothing on `err`.
+#[test]
+fn each_put_fails_in_turn(rt: HostRuntime) -> Result<(), Fail> {
+    let mut failed = 0u32;
+    for number in 0..2000u32 {
+        let faults = Faults {
+            loads: &[],
+            outs: &[number],
+            errs: &[],
+        };
+        let end = run(rt.alloc(), &["compile", "f"], COUNTER, faults)?;
+        if end.status == Status::Done {
+            break;
+        }
+        assert!(rt; end.status == Status::WriteFault);
+        assert!(rt; is_module(end.out.bytes(), false), "put {number}");
+        assert_eq!(rt; end.err.bytes(), b"".as_slice());
+        failed = number + 1;
+    }
+    assert!(rt; failed > 40 && failed < 2000);
+    Ok(())
+}
+
+#[test]
+fn the_put_of_a_line_fails(rt: HostRuntime) -> Result<(), Fail> {
+    let faults = Faults {
+        loads: &[],
+        outs: &[],
+        errs: &[0],
+    };
+    let usage = run(rt.alloc(), &["help"], COUNTER, faults)?;
+    assert!(rt; usage.status == Status::WriteFault);
+    assert_eq!(rt; usage.out.bytes(), b"".as_slice());
+    assert_eq!(rt; usage.err.bytes(), b"usage: anvil ".as_slice());
+    Ok(())
+}

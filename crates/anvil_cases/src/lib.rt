@@ -1,0 +1,7 @@
+//! Tests of the whole tool: words and files in, bytes and a status out.
+#![tactic(auto)]
+
+#[cfg(test)]
+mod bench;
+#[cfg(test)]
+mod compile;

@@ -1,0 +1,3 @@
+-- Texts put in turn, and bytes read and written in turn.
+pub mod PieceLemmas
+pub mod ByteLemmas

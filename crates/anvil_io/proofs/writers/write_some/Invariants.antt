@@ -1,0 +1,6 @@
+-- A write that was interrupted added nothing to what the writer holds.
+use Rattle.std.specs.Io.KnownBytes.{Keeps}
+use Rattle.anvil_io.proofs.writers.write_some.Given as goal
+
+abbrev pub invariant-loop : goal.invariant-loop
+invariant-loop g l = Keeps (g.W.Write.contents l.fn.to) (g.W.Write.contents l.to)

@@ -1,0 +1,36 @@
+//! The one line on standard error that stands beside each status but `Done`.
+ghost use Rattle.std.specs.Prelude.{◌≡◌, ◌≢◌, ◌⊎◌, ◌≤◌, ◌++◌, codes};
+ghost use Rattle.std.specs.Io.KnownBytes.{Appends};
+ghost use Rattle.anvil_io.specs.Causes.{AppendsPrefix, Rose, joined};
+
+use crate::status::Status;
+use anvil_io::{Sink, put_all};
+
+/// Puts a line, and gives `status`, or `WriteFault` where the put failed.
+pub fn complain<E: Sink>(err: &mut E, line: &[&[u8]], status: Status) -> Status
+    requires { status ≢ Status.WriteFault }
+    ensures status { (result ≡ status) ⊎ (result ≡ Status.WriteFault) }
+    ensures whole { result ≢ Status.WriteFault → Appends (E.held err.old) (E.held err.new) (joined line.now) }
+    ensures fine { result ≢ Status.WriteFault → E.faults err.new ≡ E.faults err.old }
+    ensures part { result ≡ Status.WriteFault → AppendsPrefix (E.held err.old) (E.held err.new) (joined line.now) }
+    ensures cause { result ≡ Status.WriteFault → Rose (E.faults err.old) (E.faults err.new) }
+    ensures later { E.faults err.old ≤ E.faults err.new }
+{
+    match put_all(err, line) {
+        Ok(()) => status,
+        Err(_) => Status::WriteFault,
+    }
+}
+
+/// The same with a line that ends with the name of a file.
+pub fn complain_of<E: Sink>(err: &mut E, what: &[u8], file: &str, status: Status) -> Status
+    requires { status ≢ Status.WriteFault }
+    ensures status { (result ≡ status) ⊎ (result ≡ Status.WriteFault) }
+    ensures whole { result ≢ Status.WriteFault → Appends (E.held err.old) (E.held err.new) (what.now ++ (file.now ++ codes "\n")) }
+    ensures fine { result ≢ Status.WriteFault → E.faults err.new ≡ E.faults err.old }
+    ensures part { result ≡ Status.WriteFault → AppendsPrefix (E.held err.old) (E.held err.new) (what.now ++ (file.now ++ codes "\n")) }
+    ensures cause { result ≡ Status.WriteFault → Rose (E.faults err.old) (E.faults err.new) }
+    ensures later { E.faults err.old ≤ E.faults err.new }
+{
+    complain(err, &[what, file.as_bytes(), b"\n"], status)
+}

@@ -1,0 +1,26 @@
+//! Laws over the definitions, each the contract of a function that does nothing.
+ghost use Rattle.core_term.specs.Accepted.{CoreProcessIsProcess, NoViolationsIsAccepted};
+ghost use Rattle.core_term.specs.OneRun.{EachHasOneRun, RunsAgreeWhileRowsDo};
+
+/// Each process has exactly one run on an input list: there is a history of its registers, and any two are the same in each
+/// cycle of the list and the one after it.
+pub fn each_has_one_run()
+    ensures { EachHasOneRun }
+{}
+
+/// Where two input lists have the same rows before a cycle, the runs on them have the same wires before that cycle, and the
+/// same registers up to it.
+pub fn runs_agree_while_rows_do()
+    ensures { RunsAgreeWhileRowsDo }
+{}
+
+/// The list of violations of a file is empty exactly where each of its threads keeps each of its demands.
+pub fn no_violations_is_accepted()
+    ensures { NoViolationsIsAccepted }
+{}
+
+/// A core process that is sized and owned, with bodies that are numbered and tail-stepped, stands for a process of the
+/// definitions.
+pub fn core_process_is_process()
+    ensures { CoreProcessIsProcess }
+{}

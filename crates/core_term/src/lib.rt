@@ -1,0 +1,21 @@
+//! Core terms: what a thread does once names stand for numbers, and the definitions that the tool is proved against.
+#![tactic(auto)]
+
+pub mod example;
+pub mod laws;
+mod operators;
+mod places;
+mod process;
+mod rows;
+mod rules;
+mod term;
+#[cfg(test)]
+mod tests;
+mod thread;
+
+pub use operators::BinOp;
+pub use process::{CoreFile, CoreLife, CorePort, CoreProc, CoreReg};
+pub use rows::{InCell, OutCell, OutRow, Row};
+pub use rules::{Rule, Violation};
+pub use term::{CoreAct, CoreExpr, CoreKind, CoreTerm, SourceAtom};
+pub use thread::CoreThread;

@@ -1,0 +1,5 @@
+mod WellFormedCounter
+mod CounterTurns
+mod CounterStates
+pub mod CounterShows
+mod Examples

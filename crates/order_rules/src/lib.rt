@@ -1,0 +1,2 @@
+//! The order of points in time, as least relations over any type of points.
+#![tactic(auto)]

@@ -1,0 +1,5 @@
+pub mod WellFormedPoints
+mod Parts
+mod Sample
+mod Ports
+mod IllFormed

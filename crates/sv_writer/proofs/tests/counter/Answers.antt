@@ -1,0 +1,29 @@
+-- Each part is what was pushed; then the test of well-formedness computes.
+use Rattle.std.proofs.Common.{refl}
+use Rattle.sv_tree.specs.WellFormed.{is_well_formed}
+use Rattle.sv_writer.proofs.tests.counter.Goals as goal
+
+pub new-requires-7 : goal.new-requires-7
+unfolding is_well_formed
+new-requires-7 c =
+    simp (
+      c.of.ensures,
+      c.of-2.ensures,
+      c.new.ensures,
+      c.new-2.ensures,
+      c.new-3.ensures,
+      c.new-4.ensures,
+      c.in_ok-push-2.ensures.items,
+      c.in_ok-push.ensures.items,
+      c.new-regs.ensures.items,
+      c.in_ok-push-5.ensures.items,
+      c.in_ok-push-4.ensures.items,
+      c.in_ok-push-3.ensures.items,
+      c.new-nets.ensures.items,
+      c.in_ok-push-7.ensures.items,
+      c.in_ok-push-6.ensures.items,
+      c.new-nexts.ensures.items,
+      c.new-5.ensures.items,
+      c.new-6.ensures.items,
+    )
+    refl
