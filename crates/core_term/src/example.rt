@@ -1,15 +1,15 @@
 //! A worked example: a body and a process built by hand, which shows that what the types ask can be met.
-use crate::{BinOp, CoreAct, CoreExpr, CoreKind, CoreProc, CoreReg, CoreTerm, CoreThread};
-use anvil_bits::Bits;
-use anvil_lexer::Name;
-use std::alloc::{AllocError, Global};
-
 ghost use Rattle.std.specs.Prelude.{◌≡◌, ◌∷◌, [], IfOk, IsTrue};
 ghost use Rattle.core_term.specs.Widths.{Widths};
 ghost use Rattle.core_term.specs.View.{term_of};
 ghost use Rattle.core_term.specs.Body.{IsBody};
 ghost use Rattle.core_term.specs.Sized.{words_fit};
 ghost use Rattle.core_term.specs.Example.{counting_term};
+
+use crate::{BinOp, CoreAct, CoreExpr, CoreKind, CoreProc, CoreReg, CoreTerm, CoreThread};
+use anvil_bits::Bits;
+use anvil_lexer::Name;
+use std::alloc::{AllocError, Global};
 
 /// `set r := *r + 8'd1 >> cycle 2` for the register `r`, with places that are 0.
 pub fn counting_body(alloc: Global, r: u32) -> Result<CoreTerm, AllocError>
