@@ -3,7 +3,7 @@ use Rattle.std.proofs.Common.{◌≡◌, ℕ, ◌<◌, arith, refl, sym, ap, sub
 use Rattle.core_term.specs.Inputs.{Inputs}
 use Rattle.core_term.specs.Process.{LifeEnd, Cycles, Until, is_received, life_of}
 use Rattle.core_term.specs.Wires.{Wires, Exchange, InLife, IsKept}
-use Rattle.core_term.specs.History.{history, history_in}
+use Rattle.core_term.specs.History.{history}
 use Rattle.core_term.specs.Outputs.{alive, wires}
 use Rattle.core_term.specs.Breach.{IsFirstBreach}
 use Rattle.core_term.proofs.ExampleProcesses.{echo, given}
@@ -28,7 +28,7 @@ abbrev changed : Inputs
 changed = given 4 ((0 ∷ 1 ∷ 0 ∷ 0 ∷ []) ∷ (0 ∷ 0 ∷ 1 ∷ 0 ∷ []) ∷ []) ((0 ∷ 7 ∷ 9 ∷ 0 ∷ []) ∷ [])
 
 abbrev shown : Wires
-shown = wires echo changed (history_in (history echo changed 4))
+shown = wires echo changed (history echo changed)
 
 -- the answer is not taken in cycle 1
 not_taken : Exchange shown 1 1 → ⊥

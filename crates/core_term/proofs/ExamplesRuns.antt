@@ -1,17 +1,22 @@
 -- Runs and logs, computed. The wanted texts are worked out by hand.
-use Rattle.std.proofs.Common.{◌≡◌, ℕ, List, [], ◌∷◌, ◌++◌, refl, arith}
+use Rattle.std.proofs.Common.{◌≡◌, ℕ, ◌+◌, List, [], ◌∷◌, ◌++◌, refl, arith, zero, suc}
 use Rattle.std.specs.Prelude.{codes, decimal}
 use Rattle.std.proofs.lemmas.Fmt.{decimal_digit}
 use Rattle.core_term.specs.Inputs.{Inputs}
 use Rattle.core_term.specs.Process.{Process}
-use Rattle.core_term.specs.History.{history, history_in}
+use Rattle.core_term.specs.History.{history}
 use Rattle.core_term.specs.Outputs.{wires}
 use Rattle.core_term.specs.LogText.{log_text}
 use Rattle.core_term.proofs.ExampleProcesses.{counter, fast_counter, echo, join, client, given, idle}
 
 -- the log of the first n cycles of a run
 abbrev log_of : Process → Inputs → ℕ → List ℕ
-log_of p inputs n = log_text p (wires p inputs (history_in (history p inputs n))) (history_in (history p inputs n)) 0 n
+log_of p inputs n = log_text p (wires p inputs (history p inputs)) (history p inputs) 0 n
+
+-- what the register r shows in the n cycles from t on
+abbrev registers_of : Process → Inputs → ℕ → ℕ → ℕ → List ℕ
+registers_of p inputs r t zero = []
+registers_of p inputs r t (suc n) = history p inputs t r ∷ registers_of p inputs r (t + 1) n
 
 -- numbers of one digit
 zero_is : decimal 0 ≡ 48 ∷ []
@@ -61,7 +66,7 @@ joins = rw (zero_is, one_is, three_is, four_is, seven_is) refl
 abbrev second_then_first : Inputs
 second_then_first = given 4 ((0 ∷ 1 ∷ 0 ∷ 0 ∷ []) ∷ (0 ∷ 0 ∷ 1 ∷ 0 ∷ []) ∷ (1 ∷ 0 ∷ 0 ∷ 0 ∷ []) ∷ (0 ∷ 0 ∷ 1 ∷ 0 ∷ []) ∷ []) ((0 ∷ 3 ∷ 3 ∷ 0 ∷ []) ∷ [] ∷ (4 ∷ 4 ∷ 4 ∷ 0 ∷ []) ∷ [])
 
-joins_either_way : history join second_then_first 4 ≡ (0 ∷ []) ∷ (0 ∷ []) ∷ (7 ∷ []) ∷ (7 ∷ []) ∷ (7 ∷ []) ∷ []
+joins_either_way : registers_of join second_then_first 0 0 5 ≡ 0 ∷ 0 ∷ 7 ∷ 7 ∷ 7 ∷ []
 joins_either_way = refl
 
 -- two threads over two endpoints and three registers

@@ -148,7 +148,7 @@ none_in_same : (e e' : ℕ → Bool) (u n : ℕ) → ((c : ℕ) → u ≤ c → 
 none_in_same e e' u zero k = refl
 none_in_same e e' u (suc n) k = rw (k u (omega arith) (omega arith), none_in_same e e' (u + 1) n (λ c i j. k c (omega arith) (omega arith))) refl
 
-alive_same : (ex ex' : ℕ → ℕ → Bool) (life : List LifeEnd) (u t : ℕ) → ((m c : ℕ) → c < t → ex m c ≡ ex' m c) → alive ex life u t ≡ alive ex' life u t
+pub alive_same : (ex ex' : ℕ → ℕ → Bool) (life : List LifeEnd) (u t : ℕ) → ((m c : ℕ) → c < t → ex m c ≡ ex' m c) → alive ex life u t ≡ alive ex' life u t
 alive_same ex ex' [] u t k = refl
 alive_same ex ex' (Cycles n ∷ more) u t k = rw (alive_same ex ex' more u t k) refl
 alive_same ex ex' (Until m ∷ more) u t k = rw (none_in_same (ex m) (ex' m) u (t - u) (λ c i j. k m c (omega arith)), alive_same ex ex' more u t k) refl

@@ -3,7 +3,7 @@
 -- Cycle 0 shows the reset values. What a `set` that begins in cycle t writes is shown from cycle t + 1 on; of several sets of
 -- one register in one cycle the one of the greatest site counts. The history as a whole is what the walks of the threads see,
 -- so it is a relation; that there is exactly one is a law.
-use Rattle.std.specs.Prelude.{ℕ, ◌≡◌, ◌+◌, ◌<◌, ◌==◌, ◌&&◌, if◌then◌else◌, List, [], ◌∷◌, ◌++◌, zero, suc, Option, Some, None, length, slice_index_or}
+use Rattle.std.specs.Prelude.{ℕ, ◌≡◌, ◌+◌, ◌<◌, ◌==◌, ◌&&◌, if◌then◌else◌, nat_le, List, [], ◌∷◌, zero, suc, Option, Some, None, slice_index_or}
 use Rattle.core_term.specs.Inputs.{Inputs}
 use Rattle.core_term.specs.Term.{Act, Set, head}
 use Rattle.core_term.specs.Value.{Outcome, value}
@@ -49,17 +49,11 @@ pub record IsHistory (p : Process) (inputs : Inputs) (registers : ℕ → ℕ �
   pub reset : (r : ℕ) → registers 0 r ≡ slice_index_or (resets p) r 0
   pub step : (t r : ℕ) → t < inputs.count → registers (t + 1) r ≡ get_else (written_by inputs registers p.threads r t) (registers t r)
 
--- The same, cycle by cycle: a list of the registers for each cycle so far. This one computes.
-abbrev pub row_of : (ℕ → ℕ) → ℕ → ℕ → List ℕ
-row_of f k zero = []
-row_of f k (suc n) = f k ∷ row_of f (k + 1) n
+-- The history of a run, found cycle by cycle: what is written in a cycle depends on the registers up to that cycle alone. This
+-- one computes; it is a history, and so the only one.
+abbrev pub history_to : Process → Inputs → ℕ → ℕ → ℕ → ℕ
+history_to p inputs zero t r = slice_index_or (resets p) r 0
+history_to p inputs (suc n) t r = if nat_le t n then history_to p inputs n t r else get_else (written_by inputs (history_to p inputs n) p.threads r n) (history_to p inputs n n r)
 
-abbrev pub history_in : List (List ℕ) → ℕ → ℕ → ℕ
-history_in rows t r = slice_index_or (slice_index_or rows t []) r 0
-
-abbrev pub one_more : Process → Inputs → ℕ → List (List ℕ) → List (List ℕ)
-one_more p inputs t rows = rows ++ (row_of (λ r. get_else (written_by inputs (history_in rows) p.threads r t) (history_in rows t r)) 0 (length (resets p)) ∷ [])
-
-abbrev pub history : Process → Inputs → ℕ → List (List ℕ)
-history p inputs zero = resets p ∷ []
-history p inputs (suc t) = one_more p inputs t (history p inputs t)
+abbrev pub history : Process → Inputs → ℕ → ℕ → ℕ
+history p inputs t r = history_to p inputs t t r

@@ -3,7 +3,7 @@ use Rattle.std.specs.Prelude.{ℕ, ◌≡◌, ◌<◌, ◌≤◌}
 use Rattle.core_term.specs.Inputs.{Inputs}
 use Rattle.core_term.specs.Process.{Process}
 use Rattle.core_term.specs.Wires.{Wires}
-use Rattle.core_term.specs.History.{IsHistory}
+use Rattle.core_term.specs.History.{IsHistory, history}
 use Rattle.core_term.specs.Outputs.{wires}
 
 -- two input lists have the same rows before the cycle n
@@ -24,9 +24,10 @@ pub record SameWires (wires other : Wires) (t : ℕ) : Type 0 where
   pub ack : (m : ℕ) → wires.ack m t ≡ other.ack m t
   pub data_at : (m : ℕ) → wires.data_at m t ≡ other.data_at m t
 
--- There is a history of the registers, and any two are the same in each cycle of the list and the one after it.
+-- What is found cycle by cycle is a history of the registers, and any other is the same in each cycle of the list and the one
+-- after it.
 abbrev pub EachHasOneRun : Type 0
-EachHasOneRun = (p : Process) (inputs : Inputs) → (registers : ℕ → ℕ → ℕ) × IsHistory p inputs registers × ((other : ℕ → ℕ → ℕ) → IsHistory p inputs other → (t : ℕ) → t ≤ inputs.count → SameRegisters registers other t)
+EachHasOneRun = (p : Process) (inputs : Inputs) → IsHistory p inputs (history p inputs) × ((other : ℕ → ℕ → ℕ) → IsHistory p inputs other → (t : ℕ) → t ≤ inputs.count → SameRegisters (history p inputs) other t)
 
 -- Where two input lists have the same rows before the cycle n, the runs on them have the same wires before n, and the same
 -- registers up to n.

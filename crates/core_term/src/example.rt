@@ -1,5 +1,5 @@
 //! A worked example: a body and a process built by hand, which shows that what the types ask can be met.
-ghost use Rattle.std.specs.Prelude.{◌≡◌, ◌∷◌, [], IfOk, IsTrue};
+ghost use Rattle.std.specs.Prelude.{◌≡◌, length, IfOk, IsTrue};
 ghost use Rattle.core_term.specs.Widths.{Widths};
 ghost use Rattle.core_term.specs.View.{term_of};
 ghost use Rattle.core_term.specs.Body.{IsBody};
@@ -37,7 +37,11 @@ pub fn counting_body(alloc: Global, r: u32) -> Result<CoreTerm, AllocError>
 }
 
 /// A process with the registers `a` and `b` of 8 bits, and a thread that counts each.
-pub fn counting_process(alloc: Global) -> Result<CoreProc, AllocError> {
+pub fn counting_process(alloc: Global) -> Result<CoreProc, AllocError>
+    ensures ports { IfOk result (λ process. length process.ports.items ≡ 0) }
+    ensures registers { IfOk result (λ process. length process.regs.items ≡ 2) }
+    ensures threads { IfOk result (λ process. length process.threads.items ≡ 2) }
+{
     let mut threads = Vec::new(alloc);
     threads.push(CoreThread::new(alloc, counting_body(alloc, 0)?)?)?;
     threads.push(CoreThread::new(alloc, counting_body(alloc, 1)?)?)?;

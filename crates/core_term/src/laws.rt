@@ -1,9 +1,10 @@
 //! Laws over the definitions, each the contract of a function that does nothing.
 ghost use Rattle.core_term.specs.Accepted.{CoreProcessIsProcess, NoViolationsIsAccepted};
 ghost use Rattle.core_term.specs.OneRun.{EachHasOneRun, RunsAgreeWhileRowsDo};
+ghost use Rattle.core_term.specs.Shown.{ShownTells};
 
-/// Each process has exactly one run on an input list: there is a history of its registers, and any two are the same in each
-/// cycle of the list and the one after it.
+/// Each process has exactly one run on an input list: what is found cycle by cycle is a history of its registers, and any other
+/// is the same in each cycle of the list and the one after it.
 pub fn each_has_one_run()
     ensures { EachHasOneRun }
 {}
@@ -23,4 +24,9 @@ pub fn no_violations_is_accepted()
 /// definitions.
 pub fn core_process_is_process()
     ensures { CoreProcessIsProcess }
+{}
+
+/// A log line shows the data of a sent port exactly where the port is offered or in the life of one of its exchanges.
+pub fn shown_tells()
+    ensures { ShownTells }
 {}

@@ -1,6 +1,8 @@
 //! Core terms: what a thread does once names stand for numbers, and the definitions that the tool is proved against.
 #![tactic(auto)]
 
+mod accepted;
+pub mod agreement;
 pub mod example;
 pub mod laws;
 mod operators;
@@ -8,11 +10,15 @@ mod places;
 mod process;
 mod rows;
 mod rules;
+pub mod safety;
+pub mod tables;
 mod term;
 #[cfg(test)]
 mod tests;
 mod thread;
+pub mod turns;
 
+pub use accepted::Accepted;
 pub use operators::BinOp;
 pub use process::{CoreFile, CoreLife, CorePort, CoreProc, CoreReg};
 pub use rows::{InCell, OutCell, OutRow, Row};

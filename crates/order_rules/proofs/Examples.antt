@@ -2,10 +2,10 @@
 -- not before 1, and a node 3 at the later of 0 and 2. A life from 1 on has three cycles.
 --
 -- Each largest distance is derived, and times that obey the forms show that there is no larger one.
-use Rattle.std.proofs.Common.{◌≡◌, ℕ, ◌+◌, ◌<◌, ◌≤◌, ◌⊎◌, inl, inr, arith, refl, sym, ◌∙◌, subst, max, zero, suc}
+use Rattle.std.proofs.Common.{◌≡◌, ℕ, ◌+◌, ◌<◌, ◌≤◌, ◌⊎◌, inl, inr, arith, refl, sym, subst, zero, suc}
 use Rattle.std.proofs.lemmas.Int.{ints}
-use Rattle.std.specs.Prelude.{ℤ, pos, negsuc, ◌+ℤ◌, ◌≤ℤ◌, ◌<ℤ◌}
-use Rattle.order_rules.specs.Form.{Form, Start, Same, After, Sync, Join, Side, Merge}
+use Rattle.std.specs.Prelude.{ℤ, pos, negsuc, ◌+ℤ◌, ◌<ℤ◌}
+use Rattle.order_rules.specs.Form.{Form, Start, After, Sync, Join, Merge}
 use Rattle.order_rules.specs.Before.{AtOnce, OnceOrLater, by_same, by_side, by_sync, by_first, by_second, Before}
 use Rattle.order_rules.specs.Before as order
 use Rattle.order_rules.specs.Last.{Ending, Within, Last}

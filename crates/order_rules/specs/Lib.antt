@@ -5,3 +5,6 @@ pub mod Lag
 pub mod Entry
 pub mod LastEntry
 pub mod Timed
+pub mod Laws
+pub mod Standing
+pub mod NodeLaws

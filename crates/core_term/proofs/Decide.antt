@@ -1,0 +1,224 @@
+-- Where the values in use are what they were, the re-reading run decides as the source run does.
+--
+-- An `if` of the source run decides by the value of its condition, that of the re-reading run by the condition read again; so
+-- it is enough that each atom of the condition is fresh. For received data and registers this is given. The hard case is a
+-- side: the latest decision of that `if` in the re-reading run has to be the one that the value rests on. A later one in an
+-- earlier cycle would be one of the source run, against its demands; in the same cycle it would be of the same turn, so the
+-- same one.
+use Rattle.std.proofs.Common.{◌≡◌, ℕ, ◌+◌, ◌<◌, ◌≤◌, ◌==◌, inl, inr, arith, refl, sym, ◌∙◌, ap, subst, List, [], ◌∷◌, Bool, true, false, nat_lt, suc, Option, Some, None}
+use Rattle.std.proofs.lemmas.Bool.Decides.{nat_tests}
+use Rattle.core_term.specs.Term.{Expr, Term, Act, Cycle, Set, Send, Recv, If, When, Block, Wait, Pure, Nothing, site, head}
+use Rattle.core_term.specs.Value.{Value, Outcome, Done, value, Atom, Wire, Register, Choice}
+use Rattle.core_term.specs.Inputs.{Inputs}
+use Rattle.core_term.specs.Ends.{Sees, sees, bind, act_ends}
+use Rattle.core_term.specs.Fate.{Runs, inside}
+use Rattle.core_term.specs.Points.{Begin}
+use Rattle.core_term.specs.Occurs.{At, occurrence, begin_at}
+use Rattle.core_term.specs.Numbering.{size, act_size, Numbered, NumberedAct, Mentions}
+use Rattle.core_term.specs.Turns.{begins, run_from, run_of, no_variable}
+use Rattle.core_term.specs.Tail.{IsTail}
+use Rattle.core_term.specs.Sources.{Source, WireOf, RegOf, ChoiceOf, expr_sources, sources_in}
+use Rattle.core_term.specs.Lists.{Has}
+use Rattle.core_term.specs.Stands.{Stands}
+use Rattle.core_term.specs.Acts.{Asks, Reads}
+use Rattle.core_term.proofs.Premises.{UsesAtOnce, MadeFirst, ChoicesKept}
+use Rattle.core_term.specs.Again.{Sight, number, act_again, now_in}
+use Rattle.core_term.proofs.FreshAtoms.{IsFresh, AllFresh}
+use Rattle.core_term.specs.Reread.{sight, deciding, DecidesAgain}
+use Rattle.core_term.proofs.Live.{Agrees}
+use Rattle.core_term.proofs.Sites.{Sub, Found, sub}
+use Rattle.core_term.proofs.Sound.{Matches, expr_covers}
+use Rattle.core_term.proofs.Fresh.{Steady, Kept, kept_bind, act_fresh, expr_fresh}
+use Rattle.core_term.proofs.Placed.{Ran, Covered, covered_on, some_start, begins_short, site_is, made_first, choices_kept, Turns, same, next, past, turns, turn_end, begin_since}
+use Rattle.core_term.proofs.Bounds.{NotRuns, out, scope_below, below_none, choice_below}
+use Rattle.core_term.proofs.Causal.{SameFate}
+use Rattle.core_term.proofs.Order.{later_turn}
+use Rattle.core_term.proofs.Strict.{early, EarlyIn}
+
+pub asks_uses : (a : Act) (f : Expr) → Asks a f → UsesAtOnce a f
+asks_uses (If p e t u w) f k = k
+asks_uses (When p e t) f k = k
+asks_uses (Cycle p n) f k = elim k [ ]
+asks_uses (Set p r e) f k = elim k [ ]
+asks_uses (Send p m e) f k = elim k [ ]
+asks_uses (Recv p m) f k = elim k [ ]
+asks_uses (Block p t) f k = elim k [ ]
+asks_uses (Wait p y) f k = elim k [ ]
+asks_uses (Pure p e) f k = elim k [ ]
+asks_uses (Nothing p) f k = elim k [ ]
+
+pub asks_reads : (a : Act) (f : Expr) (y : ℕ) → Asks a f → Mentions f y → Reads a y
+asks_reads (If p e t u w) f y k m = rw k m
+asks_reads (When p e t) f y k m = rw k m
+asks_reads (Cycle p n) f y k m = elim k [ ]
+asks_reads (Set p r e) f y k m = elim k [ ]
+asks_reads (Send p n e) f y k m = elim k [ ]
+asks_reads (Recv p n) f y k m = elim k [ ]
+asks_reads (Block p t) f y k m = elim k [ ]
+asks_reads (Wait p z) f y k m = elim k [ ]
+asks_reads (Pure p e) f y k m = elim k [ ]
+asks_reads (Nothing p) f y k m = elim k [ ]
+
+pub all_fresh : (P : Atom → Type 0) (cs : List Atom) → ((a : Atom) → Has cs a → P a) → AllFresh P cs
+all_fresh P [] k = tt
+all_fresh P (c ∷ cs) k = (k c (inl refl), all_fresh P cs (λ a i. k a (inr i)))
+
+module _ (inputs : Inputs) (body : Term) (numbered : Numbered [] 0 body) where
+  -- what runs stands in the body
+  pub within : (g : Sees) (i q : ℕ) (scope : ℕ → Outcome) (s : ℕ) (u : Term) → run_of inputs g body i q ≡ Runs scope s u → q < size body
+  within g i q scope s u e = go (nat_lt q (size body)) refl
+    where
+      no : (o : Option ℕ) → run_from inputs g body o q ≡ Runs scope s u → size body ≤ q → ⊥
+      no None f l = cc
+      no (Some b) f l = let z : NotRuns (Runs scope s u) = subst (λ w. NotRuns w) f (out inputs g [] 0 no_variable b body q numbered (omega arith)) in z
+
+      go : (b : Bool) → nat_lt q (size body) ≡ b → q < size body
+      go true k = grind (arith, nat_tests)
+      go false k = let l : size body ≤ q = grind (arith, nat_tests) in absurd (no (begins inputs g body i) e l)
+
+  -- what began in an earlier turn began before the begin of a later one
+  pub strictly : IsTail body → (g : Sees) (j k q : ℕ) (scope : ℕ → Outcome) (s : ℕ) (u : Term) → run_of inputs g body j q ≡ Runs scope s u → (b : ℕ) → begins inputs g body (suc (k + j)) ≡ Some b → s < b
+  strictly tail g j k q scope s u n b e =
+      let z = later_turn inputs g body numbered j k b e in
+      let o = some_start inputs g body numbered (begins inputs g body j) q scope s u n in
+      let f = turn_end inputs g body numbered (begins inputs g body j) o.0 z.0 o.1 z.2 in
+      let P : Option ℕ → Type 0 = λ w. EarlyIn inputs g (run_from inputs g body w) (run_from inputs g body w q) z.0 in
+      let y = subst P (sym o.1) (early inputs g (run_from inputs g body (Some o.0)) [] 0 no_variable o.0 body z.0 numbered tail (record { each = λ q l m. refl }) f q (omega arith) (let w = within g j q scope s u n in omega arith)).is in
+      let w = rw n at y in
+      omega (arith, z.1, w.0)
+
+  module _ (tail : IsTail body) (registers : ℕ → ℕ → ℕ) (made : MadeFirst body) (choices : ChoicesKept body) (chose : ℕ → ℕ → Bool)
+      (chose_is : (i q : ℕ) (scope : ℕ → Outcome) (s : ℕ) (u : Term) (f : Expr) → run_of inputs (sees registers) body i q ≡ Runs scope s u → Asks (head u) f → (value registers scope s f).number == 1 ≡ chose q s)
+      (registers' : ℕ → ℕ → ℕ) (decision side : ℕ → ℕ → Bool) (again : DecidesAgain inputs body registers' decision side) where
+    ran : (i q : ℕ) (scope : ℕ → Outcome) (s : ℕ) (u : Term) → run_of inputs (sees registers) body i q ≡ Runs scope s u → Ran inputs (sees registers) body numbered i q scope s u
+    ran i q scope s u e = record { inside = within (sees registers) i q scope s u e; runs = e }
+
+    made_at : (i q : ℕ) (scope : ℕ → Outcome) (s : ℕ) (u : Term) → run_of inputs (sees registers) body i q ≡ Runs scope s u → (y : ℕ) → Reads (head u) y → (e : ℕ) × (v : Value) × (scope y ≡ Done e v) × (e ≤ s)
+    made_at i q scope s u e y k = made_first inputs (sees registers) body numbered made i q scope s u (ran i q scope s u e) y k
+
+    steady : (g : Sight) (i : ℕ) → Steady inputs (sees registers) (run_of inputs (sees registers) body i) g chose
+    steady g i = record {
+      made = λ q scope s u p f e k y m. made_at i q scope s u e y (let n : Reads (Pure p f) y = m in rw k n);
+      sides = λ q scope s u p f t t' e k.
+          let a : Asks (head u) f = rw k refl in
+          let z = chose_is i q scope s u f e a in
+          let y : site (head u) ≡ q = site_is inputs (sees registers) body numbered i q scope s u (ran i q scope s u e) in
+          let w : p ≡ q = sym (ap site k) ∙ y in
+          rw w z;
+    }
+
+    abbrev Carried : Sight → ℕ → List Act → (ℕ → Outcome) → Type 0
+    Carried g i vs scope = Covered inputs (sees registers) (run_of inputs (sees registers) body i) vs scope × ((y : ℕ) → Kept inputs (sees registers) (run_of inputs (sees registers) body i) g chose scope (now_in g vs) y)
+
+    carried_on : (g : Sight) (i : ℕ) (vs : List Act) (low : ℕ) (scope : ℕ → Outcome) (s : ℕ) (a : Act) (u : Term) (o : Outcome) → NumberedAct vs low a → Agrees (run_of inputs (sees registers) body i) (inside inputs (sees registers) scope s a) (low + 1) (low + act_size a) → head u ≡ a → run_of inputs (sees registers) body i low ≡ Runs scope s u
+        → Carried g i vs scope → act_ends inputs (sees registers) scope s a ≡ o → Carried g i (a ∷ vs) (bind scope (site a) o)
+    carried_on g i vs low scope s a u o n r k j c e = (
+      covered_on inputs (sees registers) (run_of inputs (sees registers) body i) vs low scope s a u o n r k j c.0 e,
+      kept_bind inputs (sees registers) (run_of inputs (sees registers) body i) g chose scope (now_in g vs) (site a) o (act_again g (now_in g vs) a) c.1
+          (λ d v q fr. act_fresh inputs (sees registers) (run_of inputs (sees registers) body i) g chose (steady g i) vs low scope (now_in g vs) s a n r u k j c.1 d v (e ∙ q) fr),
+    )
+
+    abbrev At_place : Sight → ℕ → ℕ → ℕ → Type 0
+    At_place g i b q = Found inputs (sees registers) (run_of inputs (sees registers) body i) body b (Carried g i) (carried_on g i) q
+
+    place_at : (g : Sight) (i b q : ℕ) → begins inputs (sees registers) body i ≡ Some b → q < size body → At_place g i b q
+    place_at g i b q e l =
+        sub inputs (sees registers) (run_of inputs (sees registers) body i) body b (Carried g i) (carried_on g i) q [] 0 no_variable b body numbered (record { each = λ q l m. ap (λ o. run_from inputs (sees registers) body o q) e })
+        (λ y k. elim k [ ]) (λ ws u z. z) ((λ y e v k. absurd cc), (λ y e v k. absurd cc)) (omega arith, begins_short inputs (sees registers) body numbered i b e) (omega arith) (omega arith)
+
+    -- a value whose atoms are fresh in a cycle is what it is read again as
+    pub value_again : (g : Sight) (i q : ℕ) (scope : ℕ → Outcome) (s : ℕ) (u : Term) (f : Expr) → run_of inputs (sees registers) body i q ≡ Runs scope s u → ((y : ℕ) → Mentions f y → Reads (head u) y)
+        → (vs : List Act) × Stands [] body vs u × (AllFresh (IsFresh g inputs.data_at registers chose) (value registers scope s f).atoms → number g (now_in g vs) f ≡ (value registers scope s f).number)
+    value_again g i q scope s u f e reads =
+        let b = some_start inputs (sees registers) body numbered (begins inputs (sees registers) body i) q scope s u e in
+        let z = place_at g i b.0 q b.1 (within (sees registers) i q scope s u e) in
+        let found = rw e at z.is in (
+          found.0,
+          found.1.stands,
+          λ fresh.
+              expr_fresh inputs (sees registers) (run_of inputs (sees registers) body i) g chose scope (now_in g found.0) s f (λ y m. made_at i q scope s u e y (reads y m)) (λ y m. found.1.known.1 y) fresh,
+        )
+
+    pub decides_same : (s : ℕ)
+        → ((r t : ℕ) → t ≤ s → registers' s r ≡ registers s r)
+        → ((j p t : ℕ) → t < s → SameFate t (run_of inputs (sees registers) body j p) (run_of inputs (deciding registers' decision) body j p))
+        → (i q : ℕ) (scope scope' : ℕ → Outcome) (u : Term) (f : Expr) → run_of inputs (sees registers) body i q ≡ Runs scope s u → run_of inputs (deciding registers' decision) body i q ≡ Runs scope' s u → Asks (head u) f
+        → ((p : ℕ) → p < q → SameFate s (run_of inputs (sees registers) body i p) (run_of inputs (deciding registers' decision) body i p))
+        → ((m t : ℕ) → Has (value registers scope s f).atoms (Wire m t) → inputs.data_at m s ≡ inputs.data_at m t)
+        → ((r t : ℕ) → Has (value registers scope s f).atoms (Register r t) → registers s r ≡ registers t r)
+        → ((p t : ℕ) → Has (value registers scope s f).atoms (Choice p t) → t ≤ s)
+        → ((p t : ℕ) (scope'' : ℕ → Outcome) (u' : Term) (f' : Expr) → p < q → t ≤ s → run_of inputs (sees registers) body i p ≡ Runs scope'' t u' → Asks (head u') f' → decision p t ≡ chose p t)
+        → decision q s ≡ chose q s
+    decides_same s registers_agree earlier i q scope scope' u f e e' k before wires registers_fresh old known = go
+      where
+        g : Sight
+        g = sight inputs registers' side s
+
+        l : q < size body
+        l = within (sees registers) i q scope s u e
+
+        b : (b : ℕ) × (begins inputs (sees registers) body i ≡ Some b)
+        b = some_start inputs (sees registers) body numbered (begins inputs (sees registers) body i) q scope s u e
+
+        found : (vs : List Act) × Sub inputs (sees registers) (run_of inputs (sees registers) body i) body b.0 (Carried g i) (carried_on g i) vs scope s u q
+        found = let z = place_at g i b.0 q b.1 l in rw e at z.is
+
+        is_q : site (head u) ≡ q
+        is_q = site_is inputs (sees registers) body numbered i q scope s u (ran i q scope s u e)
+
+        -- no later decision of p by s
+        none_later : (p t : ℕ) → Has (value registers scope s f).atoms (Choice p t) → (scope'' : ℕ → Outcome) (u' : Term) → run_of inputs (sees registers) body i p ≡ Runs scope'' t u' → t ≤ s → p < q
+            → (j : ℕ) (d : ℕ → Outcome) (t' : ℕ) (v : Term) → run_of inputs (deciding registers' decision) body j p ≡ Runs d t' v → t < t' → t' ≤ s → ⊥
+        none_later p t has scope'' u' r m pq j d t' v r' a c = split (nat_lt t' s) refl (turns inputs (sees registers) body numbered i j)
+          where
+            split : (b : Bool) → nat_lt t' s ≡ b → Turns inputs (sees registers) body numbered i j → ⊥
+            split true y z =
+                let w : t' < s = grind (arith, nat_tests) in
+                let o = (earlier j p t' w).back d t' v r' (omega arith) in
+                choices_kept inputs (sees registers) body numbered choices i q scope s u (ran i q scope s u e) f (asks_uses (head u) f k) p t has j o.0 t' v (ran j p o.0 t' v o.1) a c
+            split false y (same z) =
+                let P : ℕ → Type 0 = λ n. run_of inputs (deciding registers' decision) body n p ≡ Runs d t' v in
+                let o = (before p pq).there scope'' t u' r m in
+                let w : Runs o.0 t u' ≡ Runs d t' v = sym o.1 ∙ subst P (sym z) r' in
+                let o' : t ≡ t' = cc in omega arith
+            split false y (next n z) =
+                let w : s ≤ t' = grind (arith, nat_tests) in
+                let b' = some_start inputs (deciding registers' decision) body numbered (begins inputs (deciding registers' decision) body j) p d t' v r' in
+                let P : ℕ → Type 0 = λ n. begins inputs (deciding registers' decision) body n ≡ Some b'.0 in
+                let a' = strictly tail (deciding registers' decision) i n q scope' s u e' b'.0 (subst P z b'.1) in
+                let c' = begin_since inputs (deciding registers' decision) body numbered (begins inputs (deciding registers' decision) body j) b'.0 p t' b'.1 (ap begin_at r') in omega arith
+            split false y (past n z) =
+                let w : s ≤ t' = grind (arith, nat_tests) in
+                let b' = some_start inputs (deciding registers' decision) body numbered (begins inputs (deciding registers' decision) body i) q scope' s u e' in
+                let P : ℕ → Type 0 = λ n. begins inputs (deciding registers' decision) body n ≡ Some b'.0 in
+                let a' = strictly tail (deciding registers' decision) j n p d t' v r' b'.0 (subst P z b'.1) in
+                let c' = begin_since inputs (deciding registers' decision) body numbered (begins inputs (deciding registers' decision) body i) b'.0 q s b'.1 (ap begin_at e') in omega arith
+
+        choice_fresh : (p t : ℕ) → Has (value registers scope s f).atoms (Choice p t) → (c : Source) → Has (expr_sources (site (head u)) (sources_in found.0) f) c → Matches inputs (sees registers) (run_of inputs (sees registers) body i) c (Choice p t) → side p s ≡ chose p t
+        choice_fresh p t has (WireOf c) y m = elim m [ ]
+        choice_fresh p t has (RegOf c r) y m = elim m [ ]
+        choice_fresh p t has (ChoiceOf c) y m =
+            let z : p ≡ c = m.0 in
+            let y' : Has (expr_sources (site (head u)) (sources_in found.0) f) (ChoiceOf p) = rw z y in
+            let low : p < site (head u) = choice_below (site (head u)) (site (head u)) p (sources_in found.0) f (scope_below found.1.stands 0 numbered (λ y. below_none 0)) y' in
+            let pq : p < q = rw (← is_q) low in
+            let ts : t ≤ s = old p t has in
+            let P : ℕ → Type 0 = λ n. run_of inputs (sees registers) body i n ≡ Runs m.2.0 t m.2.1 in
+            let r : run_of inputs (sees registers) body i p ≡ Runs m.2.0 t m.2.1 = subst P (sym z) m.2.3 in
+            let o = (before p pq).there m.2.0 t m.2.1 r ts in
+            again.latest i p o.0 t m.2.1 m.2.2 s o.1 m.2.4 ts (none_later p t has m.2.0 m.2.1 r ts pq) ∙ known p t m.2.0 m.2.1 m.2.2 pq ts r m.2.4
+
+        fresh_atom : (a : Atom) → Has (value registers scope s f).atoms a → IsFresh g inputs.data_at registers chose a
+        fresh_atom (Wire m t) has = wires m t has
+        fresh_atom (Register r t) has = registers_agree r s (omega arith) ∙ registers_fresh r t has
+        fresh_atom (Choice p t) has =
+            let at_s : occurrence inputs (sees registers) (run_of inputs (sees registers) body i) (Begin (site (head u))) ≡ At s = rw is_q (ap begin_at e) in
+            let c = (expr_covers inputs (sees registers) (run_of inputs (sees registers) body i) (sources_in found.0) scope (site (head u)) s f at_s found.1.known.0).each (Choice p t) has in
+            choice_fresh p t has c.0 c.1 c.2
+
+        go : decision q s ≡ chose q s
+        go =
+            let now = now_in g found.0 in
+            let value_is : number g now f ≡ (value registers scope s f).number =
+            expr_fresh inputs (sees registers) (run_of inputs (sees registers) body i) g chose scope now s f (λ y m. made_at i q scope s u e y (asks_reads (head u) f y k m)) (λ y m. found.1.known.1 y) (all_fresh _ _ fresh_atom) in
+            again.decides i q scope' s u found.0 f l e' found.1.stands k ∙ (ap (λ n. n == 1) value_is ∙ chose_is i q scope s u f e k)
