@@ -156,7 +156,7 @@ accepted_body _ _ _ _ (wire_until u q m n w s a e b) =
     let n_is : n ≡ 1 = cc in
     let w_is : w ≡ 1 = elim (on_port w n b) [ inl o ↦ absurd (omega (arith, o.1)) | inr o ↦ o.0 ] in
     rw (z.0, i.0, w_is) (inr (inr last_here, last_end))
-accepted_body _ _ _ _ (set_elsewhere u q r i w other s is ne set) = let z = rests_on u (RegOf q r) s in absurd cc
+accepted_body _ _ _ _ (set_elsewhere u q r i w other s is different set) = let z = rests_on u (RegOf q r) s in absurd cc
 accepted_body _ _ _ _ (set_here u q r w s set) = let z = rests_on u (RegOf q r) s in absurd cc
 accepted_body _ _ _ _ (choice u q s) = let z = rests_on u (ChoiceOf q) s in absurd cc
 

@@ -133,7 +133,7 @@ module _ (t : ℕ) (inputs inputs' : Inputs) (view view' : Sees) (run run' : ℕ
 
     then_agree : (vs : List Act) (low : ℕ) (scope scope' : ℕ → Outcome) (s : ℕ) (a : Act) (u : Term) → Numbered vs low (Then a u) → Agrees run (fate inputs view scope s (Then a u)) low (low + size (Then a u)) → Agrees run' (fate inputs' view' scope' s (Then a u)) low (low + size (Then a u))
         → SameScope t scope scope' → SameTo t (act_ends inputs view scope s a) (act_ends inputs' view' scope' s a) → Goes vs low a u → Within (low + act_size a) (low + act_size a + size u) × SameTo t (ends inputs view scope s (Then a u)) (ends inputs' view' scope' s (Then a u))
-    then_agree vs low scope scope' s a u n g g' k st goes = go (by_when t (act_ends inputs view scope s a))
+    then_agree vs low scope scope' s a u n g g' k in_text goes = go (by_when t (act_ends inputs view scope s a))
       where
         K : ℕ → Value → Outcome
         K c v = ends inputs view (bind scope (site a) (Done c v)) c u
@@ -143,7 +143,7 @@ module _ (t : ℕ) (inputs inputs' : Inputs) (view view' : Sees) (run run' : ℕ
 
         go : By t (act_ends inputs view scope s a) → Within (low + act_size a) (low + act_size a + size u) × SameTo t (after_end inputs (act_ends inputs view scope s a) K) (after_end inputs' (act_ends inputs' view' scope' s a) K')
         go (not_by f) =
-            let f' : (c : ℕ) (v : Value) → act_ends inputs' view' scope' s a ≡ Done c v → c ≤ t → ⊥ = λ c v e l. f c v (st.back c v l e) l in (
+            let f' : (c : ℕ) (v : Value) → act_ends inputs' view' scope' s a ≡ Done c v → c ≤ t → ⊥ = λ c v e l. f c v (in_text.back c v l e) l in (
               (λ p l m. same_late (late_as (rest_is inputs vs low view run scope s a u n g p l m) (late_once inputs _ _ f (λ c v. fate_from inputs view _ c u p)))
                   (late_as (rest_is inputs' vs low view' run' scope' s a u n g' p l m) (late_once inputs' _ _ f' (λ c v. fate_from inputs' view' _ c u p)))),
               record {
@@ -152,7 +152,7 @@ module _ (t : ℕ) (inputs inputs' : Inputs) (view view' : Sees) (run run' : ℕ
               },
             )
         go (by c v e l) =
-            let e' : act_ends inputs' view' scope' s a ≡ Done c v = st.there c v l e in
+            let e' : act_ends inputs' view' scope' s a ≡ Done c v = in_text.there c v l e in
             let lx : t < inputs.count = rows.long in
             let lx' : t < inputs'.count = rows.long' in
             let i : nat_lt c inputs.count ≡ true = grind (arith, nat_tests) in

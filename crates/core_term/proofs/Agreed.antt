@@ -150,8 +150,8 @@ module _ (p : Process) (process : IsProcess p) (accepted : IsAccepted p) (inputs
 
   -- the value of a send that is in use is on the port
   in_use_same : (m s : ℕ) (o : OfferedIn inputs registers p.threads m s) (e : Expr) → Uses (head o.act.term) e → Sends (head o.act.term) m → o.act.begin ≤ t → InUse p inputs registers o.act.scope o.act.begin (head o.act.term) t → (value registers o.act.scope o.act.begin e).number ≡ run.wires.data_at m t
-  in_use_same m s o e uses sends begun cyc =
-      let z = use_again p process accepted inputs registers history run again t short same promised o.j o.thread o.is o.turn o.place o.act e uses cyc in
+  in_use_same m s o e uses sends begun in_cycle =
+      let z = use_again p process accepted inputs registers history run again t short same promised o.j o.thread o.is o.turn o.place o.act e uses in_cycle in
       let y = (same.fates o.j o.thread o.is o.turn o.place).there o.act.scope o.act.begin o.act.term o.act.runs begun in
       let b : Begins inputs run o.j o.thread.body o.turn o.place = record { scope = y.0; begin = o.act.begin; term = o.act.term; runs = y.1 } in
       sym (again.data_out m t short o.j o.thread o.is o.turn o.place b z.0 z.1 e sends uses begun last ∙ z.2)
@@ -160,7 +160,7 @@ module _ (p : Process) (process : IsProcess p) (accepted : IsAccepted p) (inputs
       last turn' place' a k l =
           let z = (same.fates o.j o.thread o.is turn' place').back a.scope a.begin a.term a.runs l in
           let a' : Begun inputs registers o.thread.body turn' place' = record { scope = z.0; begin = a.begin; term = a.term; runs = z.1 } in
-          elim (began_last p process inputs registers o.j o.thread o.is (accepted o.j o.thread o.is) o.turn o.place turn' place' m t o.act a' sends k (on_port (head a.term) m k) cyc l) [
+          elim (began_last p process inputs registers o.j o.thread o.is (accepted o.j o.thread o.is) o.turn o.place turn' place' m t o.act a' sends k (on_port (head a.term) m k) in_cycle l) [
             | inl y ↦ inl y
             | inr y ↦
                 let i : o.turn ≡ turn' = y.0 in
@@ -178,12 +178,12 @@ module _ (p : Process) (process : IsProcess p) (accepted : IsAccepted p) (inputs
       let z = shown_value m t side d in
       let o = z.0 in
       z.4 ∙ in_use_same m t o z.1 z.2 z.3 o.pending.begun (send_in_use p inputs registers o.act.scope o.act.begin t m (head o.act.term) z.3 o.pending.begun short (λ e w q. inl (o.pending.not_ended e w q)))
-  data_at m side (inr (s, exch, life)) =
-      let z = shown_value m s side (driven_at inputs registers p process m s exch) in
+  data_at m side (inr (s, exchanging, life)) =
+      let z = shown_value m s side (driven_at inputs registers p process m s exchanging) in
       let o = z.0 in
-      let ended = offered_ends inputs registers p process m s o exch in
+      let ended = offered_ends inputs registers p process m s o exchanging in
       let begun : o.act.begin ≤ t = omega (arith, o.pending.begun, life.0) in
-      let kept = (safe p process accepted inputs registers).own_promises_kept m side s t exch (omega arith) life in
+      let kept = (safe p process accepted inputs registers).own_promises_kept m side s t exchanging (omega arith) life in
       kept ∙ (z.4 ∙ in_use_same m s o z.1 z.2 z.3 begun (send_in_use p inputs registers o.act.scope o.act.begin t m (head o.act.term) z.3 begun short
       (λ e w q. let y : Done s ended.0 ≡ Done e w = sym ended.1 ∙ q in let i : s ≡ e = cc in inr (subst (λ n. InLife (wires p inputs registers) (life_of p m) n t) i life))))
 

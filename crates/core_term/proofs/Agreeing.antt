@@ -118,7 +118,7 @@ module _ (p : Process) (process : IsProcess p) (accepted : IsAccepted p) (inputs
   -- a received value that is in use in cycle c is on the wires
   wire_fresh : (c : ℕ) → Promised c → (j : ℕ) (thread : Thread) (is : IsThread p.threads j thread) (turn place : ℕ) (b : Begun inputs registers thread.body turn place) (e : Expr) → Uses (head b.term) e → InUse p inputs registers b.scope b.begin (head b.term) c
       → (m t : ℕ) → Has (value registers b.scope b.begin e).atoms (Wire m t) → inputs.data_at m c ≡ inputs.data_at m t
-  wire_fresh c promised j thread is turn place b e uses cyc m t has = go r.0 r.1 r.2
+  wire_fresh c promised j thread is turn place b e uses in_cycle m t has = go r.0 r.1 r.2
     where
       r : (a : Source) × RestsOn thread.body b.term a × Matches inputs (sees registers) (run_of inputs (sees registers) thread.body turn) a (Wire m t)
       r = rests p process inputs registers j thread is turn place b e uses (Wire m t) has
@@ -130,40 +130,40 @@ module _ (p : Process) (process : IsProcess p) (accepted : IsAccepted p) (inputs
           let recv : Begun inputs registers thread.body turn q = record { scope = k.1.0; begin = k.1.1; term = k.1.2; runs = k.1.3 } in
           let n = process.numbered j thread is in
           let side : is_received p m ≡ true = process.receives j thread q m is (begun_act inputs registers thread.body n (λ a. Receives a m) turn q recv (rw k.1.4 refl)) in
-          let exch = exchange_of inputs registers p process m t j thread is turn q recv (rw k.1.4 refl) (end_found p process inputs registers j thread is turn q recv t k.0) in
-          let life = safe_run.used_within_life j turn place c m t (record { thread = thread; is = is; act = b; expr = e; uses = uses; in_use = cyc; has = has }) in
-          let z : data_wire p inputs registers m c ≡ data_wire p inputs registers m t = promised m side t c exch (omega arith) life in
+          let exchanging = exchange_of inputs registers p process m t j thread is turn q recv (rw k.1.4 refl) (end_found p process inputs registers j thread is turn q recv t k.0) in
+          let life = safe_run.used_within_life j turn place c m t (record { thread = thread; is = is; act = b; expr = e; uses = uses; in_use = in_cycle; has = has }) in
+          let z : data_wire p inputs registers m c ≡ data_wire p inputs registers m t = promised m side t c exchanging (omega arith) life in
           let at : (v : ℕ) → data_wire p inputs registers m v ≡ inputs.data_at m v = λ v. rw side refl in
           sym (at c) ∙ (z ∙ at t)
 
   -- a register that was read is what it was
   register_fresh : (c : ℕ) → c < inputs.count → (j : ℕ) (thread : Thread) (is : IsThread p.threads j thread) (turn place : ℕ) (b : Begun inputs registers thread.body turn place) (e : Expr) → Uses (head b.term) e → InUse p inputs registers b.scope b.begin (head b.term) c
       → (r t : ℕ) → Has (value registers b.scope b.begin e).atoms (Register r t) → registers c r ≡ registers t r
-  register_fresh c short j thread is turn place b e uses cyc r t has =
+  register_fresh c short j thread is turn place b e uses in_cycle r t has =
       let l : t ≤ b.begin = atom_by p process inputs registers j thread is turn place b e (Register r t) has in
-      let m = (in_use_from p process inputs registers j thread is turn place c b cyc).0 in
+      let m = (in_use_from p process inputs registers j thread is turn place c b in_cycle).0 in
       let e' : t + (c - t) ≡ c = omega arith in
       ap (λ z. registers z r) (sym e') ∙ steady inputs registers p process history r t (c - t) (omega arith) (no_set (sym e'))
     where
       no_set : {d : ℕ} → c ≡ d → NoSet inputs registers p process r t d
       no_set q i thread' is' turn' place' a sets y z =
-          safe_register p process accepted inputs registers j turn place c r t (record { thread = thread; is = is; act = b; expr = e; uses = uses; in_use = cyc; has = has }) i thread' is' turn' place' a sets y (omega arith)
+          safe_register p process accepted inputs registers j turn place c r t (record { thread = thread; is = is; act = b; expr = e; uses = uses; in_use = in_cycle; has = has }) i thread' is' turn' place' a sets y (omega arith)
 
   -- a side that was taken is the latest
   choice_fresh : (c : ℕ) → Same c → (j : ℕ) (thread : Thread) (is : IsThread p.threads j thread) (turn place : ℕ) (b : Begun inputs registers thread.body turn place) (e : Expr) → Uses (head b.term) e → InUse p inputs registers b.scope b.begin (head b.term) c
       → (q t : ℕ) → Has (value registers b.scope b.begin e).atoms (Choice q t) → run.side j q c ≡ choice_of j thread is q t
-  choice_fresh c same j thread is turn place b e uses cyc q t has = go r.0 r.1 r.2
+  choice_fresh c same j thread is turn place b e uses in_cycle q t has = go r.0 r.1 r.2
     where
       r : (a : Source) × RestsOn thread.body b.term a × Matches inputs (sees registers) (run_of inputs (sees registers) thread.body turn) a (Choice q t)
       r = rests p process inputs registers j thread is turn place b e uses (Choice q t) has
 
       l : t ≤ c
-      l = let y : t ≤ b.begin = atom_by p process inputs registers j thread is turn place b e (Choice q t) has in let z = (in_use_from p process inputs registers j thread is turn place c b cyc).0 in omega arith
+      l = let y : t ≤ b.begin = atom_by p process inputs registers j thread is turn place b e (Choice q t) has in let z = (in_use_from p process inputs registers j thread is turn place c b in_cycle).0 in omega arith
 
       none_later : (i : ℕ) (variables : ℕ → Outcome) (t' : ℕ) (u : Term) → Again j thread.body i q ≡ Runs variables t' u → t < t' → t' ≤ c → ⊥
       none_later i variables t' u k y z =
           let o = (same.fates j thread is i q).back variables t' u k z in
-          safe_side p process accepted inputs registers j turn place c q t (record { thread = thread; is = is; act = b; expr = e; uses = uses; in_use = cyc; has = has }) i (record { scope = o.0; begin = t'; term = u; runs = o.1 }) y z
+          safe_side p process accepted inputs registers j turn place c q t (record { thread = thread; is = is; act = b; expr = e; uses = uses; in_use = in_cycle; has = has }) i (record { scope = o.0; begin = t'; term = u; runs = o.1 }) y z
 
       go : (a : Source) → RestsOn thread.body b.term a → Matches inputs (sees registers) (run_of inputs (sees registers) thread.body turn) a (Choice q t) → run.side j q c ≡ choice_of j thread is q t
       go (WireOf q') s k = elim k [ ]
@@ -177,15 +177,15 @@ module _ (p : Process) (process : IsProcess p) (accepted : IsAccepted p) (inputs
   -- a value in use is what is read again
   pub use_again : (c : ℕ) → c < inputs.count → Same c → Promised c → (j : ℕ) (thread : Thread) (is : IsThread p.threads j thread) (turn place : ℕ) (b : Begun inputs registers thread.body turn place) (e : Expr) → Uses (head b.term) e → InUse p inputs registers b.scope b.begin (head b.term) c
       → (vs : List Act) × Stands [] thread.body vs b.term × (again_at inputs run j c vs e ≡ (value registers b.scope b.begin e).number)
-  use_again c short same promised j thread is turn place b e uses cyc =
+  use_again c short same promised j thread is turn place b e uses in_cycle =
       let z = value_again inputs thread.body (process.numbered j thread is) (process.takes_time j thread is) registers (made_of j thread is) (choices_of j thread is) (choice_of j thread is) (chose_is inputs registers thread.body (process.numbered j thread is) (process.takes_time j thread is))
       run.registers (run.decision j) (run.side j) (again.decides j thread is) (sight inputs run.registers (run.side j) c) turn place b.scope b.begin b.term e b.runs (λ y m. uses_reads (head b.term) e y uses m) in
       (z.0, z.1, z.2 (all_fresh _ _ fresh))
     where
       fresh : (a : Atom) → Has (value registers b.scope b.begin e).atoms a → IsFresh (sight inputs run.registers (run.side j) c) inputs.data_at registers (choice_of j thread is) a
-      fresh (Wire m t) has = wire_fresh c promised j thread is turn place b e uses cyc m t has
-      fresh (Register r t) has = same.registers_same c r (omega arith) ∙ register_fresh c short j thread is turn place b e uses cyc r t has
-      fresh (Choice q t) has = choice_fresh c same j thread is turn place b e uses cyc q t has
+      fresh (Wire m t) has = wire_fresh c promised j thread is turn place b e uses in_cycle m t has
+      fresh (Register r t) has = same.registers_same c r (omega arith) ∙ register_fresh c short j thread is turn place b e uses in_cycle r t has
+      fresh (Choice q t) has = choice_fresh c same j thread is turn place b e uses in_cycle q t has
 
   set_in_use : (scope : ℕ → Outcome) (s c r : ℕ) (a : Act) → Sets a r → c ≡ s → InUse p inputs registers scope s a c
   set_in_use scope s c r (Set q n e) k i = i
@@ -260,7 +260,7 @@ module _ (p : Process) (process : IsProcess p) (accepted : IsAccepted p) (inputs
   decide_now c short promised registers_same earlier j thread is i q variables variables' u f e e' k before known =
       decides_same inputs thread.body (process.numbered j thread is) (process.takes_time j thread is) registers (made_of j thread is) (choices_of j thread is) (choice_of j thread is) (chose_is inputs registers thread.body (process.numbered j thread is) (process.takes_time j thread is))
       run.registers (run.decision j) (run.side j) (again.decides j thread is) c (λ r t l. registers_same c r (omega arith)) (λ a q' t l. (earlier t l).fates j thread is a q') i q variables variables' u f e e' k before
-      (wire_fresh c promised j thread is i q b f uses cyc) (register_fresh c short j thread is i q b f uses cyc) (λ q' t has. atom_by p process inputs registers j thread is i q b f (Choice q' t) has) known
+      (wire_fresh c promised j thread is i q b f uses in_cycle) (register_fresh c short j thread is i q b f uses in_cycle) (λ q' t has. atom_by p process inputs registers j thread is i q b f (Choice q' t) has) known
     where
       b : Begun inputs registers thread.body i q
       b = record { scope = variables; begin = c; term = u; runs = e }
@@ -268,8 +268,8 @@ module _ (p : Process) (process : IsProcess p) (accepted : IsAccepted p) (inputs
       uses : Uses (head u) f
       uses = at_once_uses (head u) f (asks_uses (head u) f k)
 
-      cyc : InUse p inputs registers variables c (head u) c
-      cyc = asked_in_use variables c (head u) f k
+      in_cycle : InUse p inputs registers variables c (head u) c
+      in_cycle = asked_in_use variables c (head u) f k
 
   -- and so does each, by induction over the places
   decide_at : (n c : ℕ) → c < inputs.count → Promised c → RegistersTo c → ((s : ℕ) → s < c → Same s) → (j : ℕ) (thread : Thread) (is : IsThread p.threads j thread) (i q : ℕ) → q < n → (variables variables' : ℕ → Outcome) (s : ℕ) (u : Term) (f : Expr) → Original thread.body i q ≡ Runs variables s u → Again j thread.body i q ≡ Runs variables' s u
@@ -300,7 +300,7 @@ module _ (p : Process) (process : IsProcess p) (accepted : IsAccepted p) (inputs
       go false e =
           let m : suc u ≤ s = grind (arith, nat_tests) in
           let z : s ≡ u + 1 = omega arith in
-          let y = next_registers u (omega arith) (earlier u (omega arith)) (λ m' side t v exch k life. promised m' side t v exch (omega arith) life) r in
+          let y = next_registers u (omega arith) (earlier u (omega arith)) (λ m' side t v exchanging k life. promised m' side t v exchanging (omega arith) life) r in
           ap (λ n. run.registers n r) z ∙ (y ∙ ap (λ n. registers n r) (sym z))
 
   step : (c : ℕ) → c < inputs.count → Promised c → ((s : ℕ) → s < c → Same s) → Same c
@@ -327,7 +327,7 @@ module _ (p : Process) (process : IsProcess p) (accepted : IsAccepted p) (inputs
   -- in each cycle up to which the promises are kept
   up_to : (n c : ℕ) → c < n → c < inputs.count → Promised c → Same c
   up_to zero c l short promised = absurd (omega arith)
-  up_to (suc n) c l short promised = step c short promised (λ s m. up_to n s (omega arith) (omega arith) (λ m' side t v exch k life. promised m' side t v exch (omega arith) life))
+  up_to (suc n) c l short promised = step c short promised (λ s m. up_to n s (omega arith) (omega arith) (λ m' side t v exchanging k life. promised m' side t v exchanging (omega arith) life))
 
   pub same_at : (c : ℕ) → c < inputs.count → Promised c → Same c
   same_at c short promised = up_to (suc c) c (omega arith) short promised

@@ -11,7 +11,7 @@ use Rattle.core_term.specs.AcceptedFile.{process_in, file_of, AllStand, AllRunSa
 use Rattle.core_term.proofs.NoViolations.{from_empty}
 use Rattle.core_term.proofs.SafeRun.{safe}
 
-nth_of : (procs : List CoreProc) (i : ℕ) (p : Process) → IsNth (file_of procs) i p → (proc : CoreProc) × Has procs proc × (process_in proc ≡ p)
+pub nth_of : (procs : List CoreProc) (i : ℕ) (p : Process) → IsNth (file_of procs) i p → (proc : CoreProc) × Has procs proc × (process_in proc ≡ p)
 nth_of [] i p k = elim k [ ]
 nth_of (proc ∷ procs) zero p k = (proc, inl refl, k)
 nth_of (proc ∷ procs) (suc i) p k = let z = nth_of procs i p k in (z.0, inr z.1, z.2)

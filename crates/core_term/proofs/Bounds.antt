@@ -67,23 +67,23 @@ source_site (RegOf p r) = p
 source_site (ChoiceOf p) = p
 
 -- the sources stand before n
-pub record Below (n : ℕ) (ss : List Source) : Type 0 where
-  pub each : (b : Source) → Has ss b → source_site b < n
+pub record Below (n : ℕ) (from_sources : List Source) : Type 0 where
+  pub each : (b : Source) → Has from_sources b → source_site b < n
 
 pub below_none : (n : ℕ) → Below n []
 below_none n = record { each = λ b k. elim k [ ] }
 
-below_up : {n : ℕ} {ss : List Source} (m : ℕ) → n ≤ m → Below n ss → Below m ss
+below_up : {n : ℕ} {from_sources : List Source} (m : ℕ) → n ≤ m → Below n from_sources → Below m from_sources
 below_up m l k = record { each = λ b i. let z = k.each b i in omega arith }
 
-below_append : (n : ℕ) (ss rest : List Source) → Below n ss → Below n rest → Below n (ss ++ rest)
+below_append : (n : ℕ) (from_sources rest : List Source) → Below n from_sources → Below n rest → Below n (from_sources ++ rest)
 below_append n [] rest k l = l
-below_append n (s ∷ ss) rest k l = cons s (ss ++ rest) (k.each s (inl refl)) (below_append n ss rest (record { each = λ b i. k.each b (inr i) }) l)
+below_append n (s ∷ from_sources) rest k l = cons s (from_sources ++ rest) (k.each s (inl refl)) (below_append n from_sources rest (record { each = λ b i. k.each b (inr i) }) l)
   where
-    cons : (s : Source) (ts : List Source) → source_site s < n → Below n ts → Below n (s ∷ ts)
-    cons s ts l m = record { each = go }
+    cons : (s : Source) (by_now : List Source) → source_site s < n → Below n by_now → Below n (s ∷ by_now)
+    cons s by_now l m = record { each = go }
       where
-        go : (b : Source) → Has (s ∷ ts) b → source_site b < n
+        go : (b : Source) → Has (s ∷ by_now) b → source_site b < n
         go b (inl e) = rw e l
         go b (inr i) = m.each b i
 
@@ -96,69 +96,69 @@ below_one n s l = record { each = go }
 
 -- each variable's sources stand before n
 abbrev pub AllBelow : ℕ → (ℕ → List Source) → Type 0
-AllBelow n src = (y : ℕ) → Below n (src y)
+AllBelow n known_sources = (y : ℕ) → Below n (known_sources y)
 
-bind_below : (n m p : ℕ) (src : ℕ → List Source) (ss : List Source) → n ≤ m → AllBelow n src → Below m ss → AllBelow m (bind_sources src p ss)
-bind_below n m p src ss l k b y = go (y == p)
+bind_below : (n m p : ℕ) (known_sources : ℕ → List Source) (from_sources : List Source) → n ≤ m → AllBelow n known_sources → Below m from_sources → AllBelow m (bind_sources known_sources p from_sources)
+bind_below n m p known_sources from_sources l k b y = go (y == p)
   where
-    go : (c : Bool) → Below m (if c then ss else src y)
+    go : (c : Bool) → Below m (if c then from_sources else known_sources y)
     go true = b
     go false = below_up m l (k y)
 
-pub expr_below : (n p : ℕ) (src : ℕ → List Source) (e : Expr) → p < n → AllBelow n src → Below n (expr_sources p src e)
-expr_below n p src (Lit w v) l k = below_none n
-expr_below n p src (Var y) l k = k y
-expr_below n p src (Reg r) l k = below_one n (RegOf p r) l
-expr_below n p src (Not w e) l k = expr_below n p src e l k
-expr_below n p src (Bin o w v a b) l k = below_append n _ _ (expr_below n p src a l k) (expr_below n p src b l k)
-expr_below n p src (Slice y high low) l k = k y
-expr_below n p src (Choose c a b) l k = below_append n _ _ (expr_below n p src c l k) (below_append n _ _ (expr_below n p src a l k) (expr_below n p src b l k))
+pub expr_below : (n p : ℕ) (known_sources : ℕ → List Source) (e : Expr) → p < n → AllBelow n known_sources → Below n (expr_sources p known_sources e)
+expr_below n p known_sources (Lit w v) l k = below_none n
+expr_below n p known_sources (Var y) l k = k y
+expr_below n p known_sources (Reg r) l k = below_one n (RegOf p r) l
+expr_below n p known_sources (Not w e) l k = expr_below n p known_sources e l k
+expr_below n p known_sources (Bin o w v a b) l k = below_append n _ _ (expr_below n p known_sources a l k) (expr_below n p known_sources b l k)
+expr_below n p known_sources (Slice y high low) l k = k y
+expr_below n p known_sources (Choose c a b) l k = below_append n _ _ (expr_below n p known_sources c l k) (below_append n _ _ (expr_below n p known_sources a l k) (expr_below n p known_sources b l k))
 
-has_split : {A : Type 0} (cs ds : List A) (a : A) → Has (cs ++ ds) a → Has cs a ⊎ Has ds a
-has_split [] ds a k = inr k
-has_split (c ∷ cs) ds a (inl e) = inl (inl e)
-has_split (c ∷ cs) ds a (inr k) = elim (has_split cs ds a k) [ inl m ↦ inl (inr m) | inr m ↦ inr m ]
+has_split : {A : Type 0} (these those : List A) (a : A) → Has (these ++ those) a → Has these a ⊎ Has those a
+has_split [] those a k = inr k
+has_split (c ∷ these) those a (inl e) = inl (inl e)
+has_split (c ∷ these) those a (inr k) = elim (has_split these those a k) [ inl m ↦ inl (inr m) | inr m ↦ inr m ]
 
 -- a decision that an expression rests on stands before it
-pub choice_below : (n p q : ℕ) (src : ℕ → List Source) (e : Expr) → AllBelow n src → Has (expr_sources p src e) (ChoiceOf q) → q < n
-choice_below n p q src (Lit w v) k i = elim i [ ]
-choice_below n p q src (Var y) k i = (k y).each (ChoiceOf q) i
-choice_below n p q src (Reg r) k (inl e) = absurd cc
-choice_below n p q src (Reg r) k (inr i) = elim i [ ]
-choice_below n p q src (Not w e) k i = choice_below n p q src e k i
-choice_below n p q src (Bin o w v a b) k i = elim (has_split (expr_sources p src a) _ (ChoiceOf q) i) [ inl j ↦ choice_below n p q src a k j | inr j ↦ choice_below n p q src b k j ]
-choice_below n p q src (Slice y high low) k i = (k y).each (ChoiceOf q) i
-choice_below n p q src (Choose c a b) k i =
-    elim (has_split (expr_sources p src c) _ (ChoiceOf q) i) [
-      | inl j ↦ choice_below n p q src c k j
-      | inr j ↦ elim (has_split (expr_sources p src a) _ (ChoiceOf q) j) [ inl m ↦ choice_below n p q src a k m | inr m ↦ choice_below n p q src b k m ]
+pub choice_below : (n p q : ℕ) (known_sources : ℕ → List Source) (e : Expr) → AllBelow n known_sources → Has (expr_sources p known_sources e) (ChoiceOf q) → q < n
+choice_below n p q known_sources (Lit w v) k i = elim i [ ]
+choice_below n p q known_sources (Var y) k i = (k y).each (ChoiceOf q) i
+choice_below n p q known_sources (Reg r) k (inl e) = absurd cc
+choice_below n p q known_sources (Reg r) k (inr i) = elim i [ ]
+choice_below n p q known_sources (Not w e) k i = choice_below n p q known_sources e k i
+choice_below n p q known_sources (Bin o w v a b) k i = elim (has_split (expr_sources p known_sources a) _ (ChoiceOf q) i) [ inl j ↦ choice_below n p q known_sources a k j | inr j ↦ choice_below n p q known_sources b k j ]
+choice_below n p q known_sources (Slice y high low) k i = (k y).each (ChoiceOf q) i
+choice_below n p q known_sources (Choose c a b) k i =
+    elim (has_split (expr_sources p known_sources c) _ (ChoiceOf q) i) [
+      | inl j ↦ choice_below n p q known_sources c k j
+      | inr j ↦ elim (has_split (expr_sources p known_sources a) _ (ChoiceOf q) j) [ inl m ↦ choice_below n p q known_sources a k m | inr m ↦ choice_below n p q known_sources b k m ]
     ]
 
 mutual
-  pub below : (vs : List Act) (low : ℕ) (src : ℕ → List Source) (t : Term) → Numbered vs low t → AllBelow low src → Below (low + size t) (sources src t)
-  below vs low src (One a) n k = act_below vs low src a n k
-  below vs low src (Then a t) n k =
-      below_up (low + size (Then a t)) (omega arith) (below (a ∷ vs) (low + act_size a) _ t n.1 (bind_below low (low + act_size a) (site a) src _ (omega arith) k (act_below vs low src a n.0 k)))
-  below vs low src (Both a t) n k =
-      below_up (low + size (Both a t)) (omega arith) (below (a ∷ vs) (low + act_size a) _ t n.1 (bind_below low (low + act_size a) (site a) src _ (omega arith) k (act_below vs low src a n.0 k)))
+  pub below : (vs : List Act) (low : ℕ) (known_sources : ℕ → List Source) (t : Term) → Numbered vs low t → AllBelow low known_sources → Below (low + size t) (sources known_sources t)
+  below vs low known_sources (One a) n k = act_below vs low known_sources a n k
+  below vs low known_sources (Then a t) n k =
+      below_up (low + size (Then a t)) (omega arith) (below (a ∷ vs) (low + act_size a) _ t n.1 (bind_below low (low + act_size a) (site a) known_sources _ (omega arith) k (act_below vs low known_sources a n.0 k)))
+  below vs low known_sources (Both a t) n k =
+      below_up (low + size (Both a t)) (omega arith) (below (a ∷ vs) (low + act_size a) _ t n.1 (bind_below low (low + act_size a) (site a) known_sources _ (omega arith) k (act_below vs low known_sources a n.0 k)))
 
-  pub act_below : (vs : List Act) (low : ℕ) (src : ℕ → List Source) (a : Act) → NumberedAct vs low a → AllBelow low src → Below (low + act_size a) (act_sources src a)
-  act_below vs low src (Recv p m) n k = let z : p ≡ low = n in below_one (low + 1) (WireOf p) (omega arith)
-  act_below vs low src (If p e t u true) n k =
+  pub act_below : (vs : List Act) (low : ℕ) (known_sources : ℕ → List Source) (a : Act) → NumberedAct vs low a → AllBelow low known_sources → Below (low + act_size a) (act_sources known_sources a)
+  act_below vs low known_sources (Recv p m) n k = let z : p ≡ low = n in below_one (low + 1) (WireOf p) (omega arith)
+  act_below vs low known_sources (If p e t u true) n k =
       let z : p ≡ low = n.0 in
-      below_append (low + (1 + (size t + size u))) (ChoiceOf p ∷ []) (sources src t ++ sources src u) (below_one _ (ChoiceOf p) (omega arith))
-      (below_append _ (sources src t) (sources src u)
-      (below_up _ (omega arith) (below vs (low + 1) src t n.1 (λ y. below_up (low + 1) (omega arith) (k y))))
-      (below_up _ (omega arith) (below vs (low + (1 + size t)) src u n.2 (λ y. below_up (low + (1 + size t)) (omega arith) (k y)))))
-  act_below vs low src (If p e t u false) n k = below_none _
-  act_below vs low src (Block p t) n k = below_up (low + (1 + size t)) (omega arith) (below vs (low + 1) src t n.1 (λ y. below_up (low + 1) (omega arith) (k y)))
-  act_below vs low src (Wait p y) n k = below_up (low + 1) (omega arith) (k y)
-  act_below vs low src (Pure p e) n k = let z : p ≡ low = n.0 in expr_below (low + 1) p src e (omega arith) (λ y. below_up (low + 1) (omega arith) (k y))
-  act_below vs low src (Cycle p m) n k = below_none _
-  act_below vs low src (Set p r e) n k = below_none _
-  act_below vs low src (Send p m e) n k = below_none _
-  act_below vs low src (When p e t) n k = below_none _
-  act_below vs low src (Nothing p) n k = below_none _
+      below_append (low + (1 + (size t + size u))) (ChoiceOf p ∷ []) (sources known_sources t ++ sources known_sources u) (below_one _ (ChoiceOf p) (omega arith))
+      (below_append _ (sources known_sources t) (sources known_sources u)
+      (below_up _ (omega arith) (below vs (low + 1) known_sources t n.1 (λ y. below_up (low + 1) (omega arith) (k y))))
+      (below_up _ (omega arith) (below vs (low + (1 + size t)) known_sources u n.2 (λ y. below_up (low + (1 + size t)) (omega arith) (k y)))))
+  act_below vs low known_sources (If p e t u false) n k = below_none _
+  act_below vs low known_sources (Block p t) n k = below_up (low + (1 + size t)) (omega arith) (below vs (low + 1) known_sources t n.1 (λ y. below_up (low + 1) (omega arith) (k y)))
+  act_below vs low known_sources (Wait p y) n k = below_up (low + 1) (omega arith) (k y)
+  act_below vs low known_sources (Pure p e) n k = let z : p ≡ low = n.0 in expr_below (low + 1) p known_sources e (omega arith) (λ y. below_up (low + 1) (omega arith) (k y))
+  act_below vs low known_sources (Cycle p m) n k = below_none _
+  act_below vs low known_sources (Set p r e) n k = below_none _
+  act_below vs low known_sources (Send p m e) n k = below_none _
+  act_below vs low known_sources (When p e t) n k = below_none _
+  act_below vs low known_sources (Nothing p) n k = below_none _
 
 -- where a term stands, the sources of its scope stand before it
 mutual

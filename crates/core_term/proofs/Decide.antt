@@ -59,9 +59,9 @@ asks_reads (Wait p z) f y k m = elim k [ ]
 asks_reads (Pure p e) f y k m = elim k [ ]
 asks_reads (Nothing p) f y k m = elim k [ ]
 
-pub all_fresh : (P : Atom → Type 0) (cs : List Atom) → ((a : Atom) → Has cs a → P a) → AllFresh P cs
+pub all_fresh : (P : Atom → Type 0) (these : List Atom) → ((a : Atom) → Has these a → P a) → AllFresh P these
 all_fresh P [] k = tt
-all_fresh P (c ∷ cs) k = (k c (inl refl), all_fresh P cs (λ a i. k a (inr i)))
+all_fresh P (c ∷ these) k = (k c (inl refl), all_fresh P these (λ a i. k a (inr i)))
 
 module _ (inputs : Inputs) (body : Term) (numbered : Numbered [] 0 body) where
   -- what runs stands in the body
@@ -115,7 +115,7 @@ module _ (inputs : Inputs) (body : Term) (numbered : Numbered [] 0 body) where
     carried_on g i vs low scope s a u o n r k j c e = (
       covered_on inputs (sees registers) (run_of inputs (sees registers) body i) vs low scope s a u o n r k j c.0 e,
       kept_bind inputs (sees registers) (run_of inputs (sees registers) body i) g chose scope (now_in g vs) (site a) o (act_again g (now_in g vs) a) c.1
-          (λ d v q fr. act_fresh inputs (sees registers) (run_of inputs (sees registers) body i) g chose (steady g i) vs low scope (now_in g vs) s a n r u k j c.1 d v (e ∙ q) fr),
+          (λ d v q fresh_atoms. act_fresh inputs (sees registers) (run_of inputs (sees registers) body i) g chose (steady g i) vs low scope (now_in g vs) s a n r u k j c.1 d v (e ∙ q) fresh_atoms),
     )
 
     abbrev At_place : Sight → ℕ → ℕ → ℕ → Type 0
@@ -169,7 +169,7 @@ module _ (inputs : Inputs) (body : Term) (numbered : Numbered [] 0 body) where
         -- no later decision of p by s
         none_later : (p t : ℕ) → Has (value registers scope s f).atoms (Choice p t) → (scope'' : ℕ → Outcome) (u' : Term) → run_of inputs (sees registers) body i p ≡ Runs scope'' t u' → t ≤ s → p < q
             → (j : ℕ) (d : ℕ → Outcome) (t' : ℕ) (v : Term) → run_of inputs (deciding registers' decision) body j p ≡ Runs d t' v → t < t' → t' ≤ s → ⊥
-        none_later p t has scope'' u' r m pq j d t' v r' a c = split (nat_lt t' s) refl (turns inputs (sees registers) body numbered i j)
+        none_later p t has scope'' u' r m before_here j d t' v r' a c = split (nat_lt t' s) refl (turns inputs (sees registers) body numbered i j)
           where
             split : (b : Bool) → nat_lt t' s ≡ b → Turns inputs (sees registers) body numbered i j → ⊥
             split true y z =
@@ -178,7 +178,7 @@ module _ (inputs : Inputs) (body : Term) (numbered : Numbered [] 0 body) where
                 choices_kept inputs (sees registers) body numbered choices i q scope s u (ran i q scope s u e) f (asks_uses (head u) f k) p t has j o.0 t' v (ran j p o.0 t' v o.1) a c
             split false y (same z) =
                 let P : ℕ → Type 0 = λ n. run_of inputs (deciding registers' decision) body n p ≡ Runs d t' v in
-                let o = (before p pq).there scope'' t u' r m in
+                let o = (before p before_here).there scope'' t u' r m in
                 let w : Runs o.0 t u' ≡ Runs d t' v = sym o.1 ∙ subst P (sym z) r' in
                 let o' : t ≡ t' = cc in omega arith
             split false y (next n z) =
@@ -201,12 +201,12 @@ module _ (inputs : Inputs) (body : Term) (numbered : Numbered [] 0 body) where
             let z : p ≡ c = m.0 in
             let y' : Has (expr_sources (site (head u)) (sources_in found.0) f) (ChoiceOf p) = rw z y in
             let low : p < site (head u) = choice_below (site (head u)) (site (head u)) p (sources_in found.0) f (scope_below found.1.stands 0 numbered (λ y. below_none 0)) y' in
-            let pq : p < q = rw (← is_q) low in
-            let ts : t ≤ s = old p t has in
+            let before_here : p < q = rw (← is_q) low in
+            let by_now : t ≤ s = old p t has in
             let P : ℕ → Type 0 = λ n. run_of inputs (sees registers) body i n ≡ Runs m.2.0 t m.2.1 in
             let r : run_of inputs (sees registers) body i p ≡ Runs m.2.0 t m.2.1 = subst P (sym z) m.2.3 in
-            let o = (before p pq).there m.2.0 t m.2.1 r ts in
-            again.latest i p o.0 t m.2.1 m.2.2 s o.1 m.2.4 ts (none_later p t has m.2.0 m.2.1 r ts pq) ∙ known p t m.2.0 m.2.1 m.2.2 pq ts r m.2.4
+            let o = (before p before_here).there m.2.0 t m.2.1 r by_now in
+            again.latest i p o.0 t m.2.1 m.2.2 s o.1 m.2.4 by_now (none_later p t has m.2.0 m.2.1 r by_now before_here) ∙ known p t m.2.0 m.2.1 m.2.2 before_here by_now r m.2.4
 
         fresh_atom : (a : Atom) → Has (value registers scope s f).atoms a → IsFresh g inputs.data_at registers chose a
         fresh_atom (Wire m t) has = wires m t has

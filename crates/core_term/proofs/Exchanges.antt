@@ -98,8 +98,8 @@ module _ (inputs : Inputs) (registers : ℕ → ℕ → ℕ) where
     pub exchange_of : (m t j : ℕ) (thread : Thread) → IsThread p.threads j thread → (turn place : ℕ) (b : Begun inputs registers thread.body turn place) → OnPort (head b.term) m → EndsIn b t → Exchange (wires p inputs registers) m t
     exchange_of m t j thread is turn place b k (v, e) =
         let z = ended_ready b.scope b.begin m t v (head b.term) k e in
-        let pend : IsPending t b.begin (act_ends inputs (sees registers) b.scope b.begin (head b.term)) = record { begun = z.1; not_ended = λ c w q. let y : Done c w ≡ Done t v = sym q ∙ e in let y' : c ≡ t = cc in omega arith } in
-        let d = is_driven inputs registers p process m t (record { j = j; thread = thread; is = is; turn = turn; place = place; act = b; on = k; pending = pend }) in
+        let still_offered : IsPending t b.begin (act_ends inputs (sees registers) b.scope b.begin (head b.term)) = record { begun = z.1; not_ended = λ c w q. let y : Done c w ≡ Done t v = sym q ∙ e in let y' : c ≡ t = cc in omega arith } in
+        let d = is_driven inputs registers p process m t (record { j = j; thread = thread; is = is; turn = turn; place = place; act = b; on = k; pending = still_offered }) in
         ready_wires m t (head b.term) (side_begun m j thread is turn place b k) z.2 d z.0
 
     pub driven_at : (m t : ℕ) → Exchange (wires p inputs registers) m t → driven p inputs registers m t ≡ true

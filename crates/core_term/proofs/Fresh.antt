@@ -19,13 +19,13 @@ use Rattle.core_term.proofs.Parts.{one_inner, then_inner, both_inner, both_rest,
 use Rattle.core_term.proofs.Tails.{then_rest_is}
 use Rattle.core_term.proofs.Done.{chain_done, both_done, decided_done, unit_done, waited_done, found_done}
 
-fresh_left : (P : Atom → Type 0) (cs bs : List Atom) → AllFresh P (cs ++ bs) → AllFresh P cs
-fresh_left P [] bs k = tt
-fresh_left P (a ∷ cs) bs k = (k.0, fresh_left P cs bs k.1)
+fresh_left : (P : Atom → Type 0) (these others : List Atom) → AllFresh P (these ++ others) → AllFresh P these
+fresh_left P [] others k = tt
+fresh_left P (a ∷ these) others k = (k.0, fresh_left P these others k.1)
 
-fresh_right : (P : Atom → Type 0) (cs bs : List Atom) → AllFresh P (cs ++ bs) → AllFresh P bs
-fresh_right P [] bs k = k
-fresh_right P (a ∷ cs) bs k = fresh_right P cs bs k.1
+fresh_right : (P : Atom → Type 0) (these others : List Atom) → AllFresh P (these ++ others) → AllFresh P others
+fresh_right P [] others k = k
+fresh_right P (a ∷ these) others k = fresh_right P these others k.1
 
 read_made : (o : Outcome) (s e : ℕ) (v : Value) → o ≡ Done e v → e ≤ s → read o s ≡ v
 read_made o s e v k l = let z : nat_le e s ≡ true = grind (arith, nat_tests) in ap (λ z. read z s) k ∙ rw z refl

@@ -45,9 +45,9 @@ merge_idle i e f g =
       lost = λ k l. e ∙ (sym f ∙ k);
     }
 
-pub obeys_append : (T : ℕ) (o : Spot → Occurrence) (fs gs : List Formed) → Obeys T o fs → Obeys T o gs → Obeys T o (fs ++ gs)
-obeys_append T o [] gs p q = q
-obeys_append T o (f ∷ fs) gs p q = (p.0, obeys_append T o fs gs p.1 q)
+pub obeys_append : (T : ℕ) (o : Spot → Occurrence) (all_forms more_forms : List Formed) → Obeys T o all_forms → Obeys T o more_forms → Obeys T o (all_forms ++ more_forms)
+obeys_append T o [] more_forms p q = q
+obeys_append T o (f ∷ all_forms) more_forms p q = (p.0, obeys_append T o all_forms more_forms p.1 q)
 
 mutual
   pub head_site : (vs : List Act) (low : ℕ) (t : Term) → Numbered vs low t → site (head t) ≡ low

@@ -55,3 +55,4 @@ pub mod AllSafe
 mod AcceptedEcho
 mod GraphOfCycle
 mod RereadCounter
+pub mod CountingAccepted

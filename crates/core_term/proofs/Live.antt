@@ -71,18 +71,18 @@ module _ (inputs : Inputs) (view : Sees) (run : ℕ → Fate) where
   Scope vs low scope = (y : ℕ) → OneOf vs y → (y < low) × (o (End y) ≡ of_outcome (scope y))
 
   pub scope_outer : (vs : List Act) (low : ℕ) (scope : ℕ → Outcome) → Scope vs low scope → (w : Occurrence) → Outer o w vs
-  scope_outer vs low scope sc w y m g = go (scope y) (sc y m).1
+  scope_outer vs low scope in_scope w y m g = go (scope y) (in_scope y m).1
     where
       go : (e : Outcome) → o (End y) ≡ of_outcome e → w ≡ Gone
       go Open f = let k : Later ≡ Gone = sym f ∙ g in absurd cc
       go (Done e v) f = let k : At e ≡ Gone = sym f ∙ g in absurd cc
 
   pub scope_more : (vs : List Act) (low high : ℕ) (scope : ℕ → Outcome) (c : Act) (e : Outcome) → Scope vs low scope → site c ≡ low → low < high → o (End (site c)) ≡ of_outcome e → Scope (c ∷ vs) high (bind scope (site c) e)
-  scope_more vs low high scope c e sc k l f y (inl m) =
+  scope_more vs low high scope c e in_scope k l f y (inl m) =
       (omega arith, rw (pick_eq y (site c) e (scope y) m) (ap (λ z. o (End z)) m ∙ f))
-  scope_more vs low high scope c e sc k l f y (inr m) =
-      let b : y < low = (sc y m).0 in
-      (omega arith, rw (pick_ne y (site c) e (scope y) (λ q. omega arith)) ((sc y m).1))
+  scope_more vs low high scope c e in_scope k l f y (inr m) =
+      let b : y < low = (in_scope y m).0 in
+      (omega arith, rw (pick_ne y (site c) e (scope y) (λ q. omega arith)) ((in_scope y m).1))
 
   pub still : (w : Fate) → (Idle (begin_at w)) → (q : ℕ) → run q ≡ w → Still o (begin_at w) q
   still Waits i q e = record { term_begin = ap begin_at e; term_end = ap (term_end_at inputs view) e; begin = ap begin_at e; end = ap (end_at inputs view) e; no = ap (no_side_at view) e }
@@ -154,7 +154,7 @@ module _ (inputs : Inputs) (view : Sees) (run : ℕ → Fate) where
 
   then_rest : (vs : List Act) (low : ℕ) (scope : ℕ → Outcome) (s : ℕ) (a : Act) (t : Term) → Numbered vs low (Then a t) → Agrees run (fate inputs view scope s (Then a t)) low (low + size (Then a t)) → run (site a) ≡ Runs scope s (Then a t) → Scope vs low scope → Goes vs low a t
       → (r : Outcome) → act_ends inputs view scope s a ≡ r → Rest a t
-  then_rest vs low scope s a t n g e sc k r f =
+  then_rest vs low scope s a t n g e in_scope k r f =
       let p : 0 < act_size a = act_size_positive a in
       let p' : 0 < size t = size_positive t in
       let m : site (head t) ≡ low + act_size a = head_site _ _ t n.1 in
@@ -167,11 +167,11 @@ module _ (inputs : Inputs) (view : Sees) (run : ℕ → Fate) where
       go r later_on end_is term_is
     where
       more : (r : Outcome) → end_at inputs view (run (site a)) ≡ of_outcome r → Scope (a ∷ vs) (low + act_size a) (bind scope (site a) r)
-      more r i = let p : 0 < act_size a = act_size_positive a in scope_more vs low (low + act_size a) scope a r sc (act_site vs low a n.0) (omega arith) i
+      more r i = let p : 0 < act_size a = act_size_positive a in scope_more vs low (low + act_size a) scope a r in_scope (act_site vs low a n.0) (omega arith) i
 
       outer : Outer o Later (a ∷ vs)
       outer y (inl c) u = let i : o (End (site a)) ≡ Gone = rw c at u in absurd (not_gone (act_ends inputs view scope s a) (sym (ap (end_at inputs view) e) ∙ i))
-      outer y (inr c) u = scope_outer vs low scope sc Later y c u
+      outer y (inr c) u = scope_outer vs low scope in_scope Later y c u
 
       at_rest : ((q : ℕ) → low + act_size a ≤ q → q < low + act_size a + size t → run q ≡ Waits) → (begin_at (run (site (head t))) ≡ Later) × (term_end_at inputs view (run (site (head t))) ≡ Later) × Obeys inputs.count o (forms t)
       at_rest w =
@@ -202,14 +202,14 @@ module _ (inputs : Inputs) (view : Sees) (run : ℕ → Fate) where
               }
 
   pub scope_up : (vs : List Act) (low high : ℕ) (scope : ℕ → Outcome) → low ≤ high → Scope vs low scope → Scope vs high scope
-  scope_up vs low high scope l sc y m = let b : y < low = (sc y m).0 in (omega arith, (sc y m).1)
+  scope_up vs low high scope l in_scope y m = let b : y < low = (in_scope y m).0 in (omega arith, (in_scope y m).1)
 
   -- a side that is not taken
   side_rests : (vs : List Act) (low at : ℕ) (scope : ℕ → Outcome) (t : Term) → Numbered vs at t → Scope vs low scope → ((q : ℕ) → at ≤ q → q < at + size t → run q ≡ Lost) → (begin_at (run (site (head t))) ≡ Gone) × (term_end_at inputs view (run (site (head t))) ≡ Gone) × Obeys inputs.count o (forms t)
-  side_rests vs low at scope t n sc w =
+  side_rests vs low at scope t n in_scope w =
       let p : 0 < size t = size_positive t in
       let i : run (site (head t)) ≡ Lost = rw (head_site _ _ t n) (w at (omega arith) (omega arith)) in
-      (ap begin_at i, ap (term_end_at inputs view) i, rests vs at t Lost idle_gone n (record { each = w }) (scope_outer vs low scope sc Gone))
+      (ap begin_at i, ap (term_end_at inputs view) i, rests vs at t Lost idle_gone n (record { each = w }) (scope_outer vs low scope in_scope Gone))
 
   -- a side that is taken
   side_runs : (vs : List Act) (at : ℕ) (scope : ℕ → Outcome) (s : ℕ) (t : Term) → Numbered vs at t → ((q : ℕ) → at ≤ q → q < at + size t → run q ≡ fate inputs view scope s t q) → (begin_at (run (site (head t))) ≡ At s) × (term_end_at inputs view (run (site (head t))) ≡ of_outcome (ends inputs view scope s t))
@@ -223,7 +223,7 @@ module _ (inputs : Inputs) (view : Sees) (run : ℕ → Fate) where
 
   if_live : (vs : List Act) (low : ℕ) (scope : ℕ → Outcome) (s p : ℕ) (e : Expr) (t u : Term) (w : Bool) → NumberedAct vs low (If p e t u w) → Agrees run (inside inputs view scope s (If p e t u w)) (low + 1) (low + act_size (If p e t u w)) → Live scope s (If p e t u w) low → Scope vs low scope
       → Runs_on vs (low + 1) scope s t → Runs_on vs (low + (1 + size t)) scope s u → Obeys inputs.count o (act_forms (If p e t u w))
-  if_live vs low scope s p e t u w n g l sc k k' = go (view.decide p s scope e) refl
+  if_live vs low scope s p e t u w n g l in_scope k k' = go (view.decide p s scope e) refl
     where
       m : site (head u) ≡ low + (1 + size t)
       m = head_site _ _ u n.2
@@ -243,32 +243,32 @@ module _ (inputs : Inputs) (view : Sees) (run : ℕ → Fate) where
       go : (b : Bool) → view.decide p s scope e ≡ b → Obeys inputs.count o (act_forms (If p e t u w))
       go true f =
           let a = side_runs vs (low + 1) scope s t n.1 (yes true f) in
-          let c = side_rests vs low (low + (1 + size t)) scope u n.2 sc (no true f) in (
+          let c = side_rests vs low (low + (1 + size t)) scope u n.2 in_scope (no true f) in (
             side_eq (a.0 ∙ sym begin_is),
             (
               side_lost c.0,
               (
                 merge_first (end_is true f ∙ sym a.1) c.1,
-                obeys_append inputs.count o (forms t) (forms u) (k (record { each = yes true f }) (scope_up vs low (low + 1) scope (omega arith) sc)) c.2,
+                obeys_append inputs.count o (forms t) (forms u) (k (record { each = yes true f }) (scope_up vs low (low + 1) scope (omega arith) in_scope)) c.2,
               ),
             ),
           )
       go false f =
-          let a = side_rests vs low (low + 1) scope t n.1 sc (yes false f) in
+          let a = side_rests vs low (low + 1) scope t n.1 in_scope (yes false f) in
           let c = side_runs vs (low + (1 + size t)) scope s u n.2 (no false f) in (
             side_lost a.0,
             (
               side_eq (c.0 ∙ sym begin_is),
               (
                 merge_second (end_is false f ∙ sym c.1) a.1,
-                obeys_append inputs.count o (forms t) (forms u) a.2 (k' (record { each = no false f }) (scope_up vs low (low + (1 + size t)) scope (omega arith) sc)),
+                obeys_append inputs.count o (forms t) (forms u) a.2 (k' (record { each = no false f }) (scope_up vs low (low + (1 + size t)) scope (omega arith) in_scope)),
               ),
             ),
           )
 
   when_live : (vs : List Act) (low : ℕ) (scope : ℕ → Outcome) (s p : ℕ) (e : Expr) (t : Term) → NumberedAct vs low (When p e t) → Agrees run (inside inputs view scope s (When p e t)) (low + 1) (low + act_size (When p e t)) → Live scope s (When p e t) low → Scope vs low scope
       → Runs_on vs (low + 1) scope s t → Obeys inputs.count o (act_forms (When p e t))
-  when_live vs low scope s p e t n g l sc k = go (view.decide p s scope e) refl
+  when_live vs low scope s p e t n g l in_scope k = go (view.decide p s scope e) refl
     where
       yes : (b : Bool) → view.decide p s scope e ≡ b → (q : ℕ) → low + 1 ≤ q → q < low + 1 + size t → run q ≡ (if b then fate inputs view scope s t q else Lost)
       yes b f q i j = g.each q (omega arith) (omega arith) ∙ ap (λ c. if c then fate inputs view scope s t q else Lost) f
@@ -290,33 +290,33 @@ module _ (inputs : Inputs) (view : Sees) (run : ℕ → Fate) where
               side_lost (no_is true f),
               (
                 merge_first (end_is true f ∙ sym a.1) (no_is true f),
-                k (record { each = yes true f }) (scope_up vs low (low + 1) scope (omega arith) sc),
+                k (record { each = yes true f }) (scope_up vs low (low + 1) scope (omega arith) in_scope),
               ),
             ),
           )
       go false f =
-          let a = side_rests vs low (low + 1) scope t n.1 sc (yes false f) in
+          let a = side_rests vs low (low + 1) scope t n.1 in_scope (yes false f) in
           (side_lost a.0, (side_eq (no_is false f ∙ sym begin_is), (merge_second (end_is false f ∙ sym (no_is false f)) a.1, a.2)))
 
   mutual
     pub live : (vs : List Act) (low : ℕ) (scope : ℕ → Outcome) (s : ℕ) (t : Term) → Numbered vs low t → Agrees run (fate inputs view scope s t) low (low + size t) → Scope vs low scope → Obeys inputs.count o (forms t)
-    live vs low scope s (One a) n g sc =
+    live vs low scope s (One a) n g in_scope =
         let p : 0 < act_size a = act_size_positive a in
         let e : run low ≡ Runs scope s (One a) = g.each low (omega arith) (omega arith) ∙ fate_head inputs view scope s vs low (One a) n in
         let l : site a ≡ low = act_site vs low a n in
         let f : run (site a) ≡ Runs scope s (One a) = rw l e in
         let inner : Agrees run (inside inputs view scope s a) (low + 1) (low + act_size a) = record { each = λ q i j. g.each q (omega arith) (omega arith) ∙ pick_ne q (site a) _ _ (λ k. omega arith) } in
-        (same_eq refl, (same_eq (ap (term_end_at inputs view) f ∙ sym (ap (end_at inputs view) f)), act_live vs low scope s a n inner (live_head scope s low (One a) e) sc))
-    live vs low scope s (Then a t) n g sc =
+        (same_eq refl, (same_eq (ap (term_end_at inputs view) f ∙ sym (ap (end_at inputs view) f)), act_live vs low scope s a n inner (live_head scope s low (One a) e) in_scope))
+    live vs low scope s (Then a t) n g in_scope =
         let p : 0 < act_size a = act_size_positive a in
         let e : run low ≡ Runs scope s (Then a t) = g.each low (omega arith) (omega arith) ∙ fate_head inputs view scope s vs low (Then a t) n in
         let l : site a ≡ low = act_site vs low a n.0 in
         let m : site (head t) ≡ low + act_size a = head_site _ _ t n.1 in
         let f : run (site a) ≡ Runs scope s (Then a t) = rw l e in
         let inner : Agrees run (inside inputs view scope s a) (low + 1) (low + act_size a) = record { each = λ q i j. g.each q (omega arith) (omega arith) ∙ (pick_lt q (site (head t)) _ _ (omega arith) ∙ pick_ne q (site a) _ _ (λ k. omega arith)) } in
-        let r = then_rest vs low scope s a t n g f sc (λ scope' s' g' sc'. live (a ∷ vs) (low + act_size a) scope' s' t n.1 g' sc') (act_ends inputs view scope s a) refl in
-        (same_eq refl, (r.begins, (r.ends_too, obeys_append inputs.count o (act_forms a) (forms t) (act_live vs low scope s a n.0 inner (live_head scope s low (Then a t) e) sc) r.obeys)))
-    live vs low scope s (Both a t) n g sc =
+        let r = then_rest vs low scope s a t n g f in_scope (λ scope' s' g' in_scope'. live (a ∷ vs) (low + act_size a) scope' s' t n.1 g' in_scope') (act_ends inputs view scope s a) refl in
+        (same_eq refl, (r.begins, (r.ends_too, obeys_append inputs.count o (act_forms a) (forms t) (act_live vs low scope s a n.0 inner (live_head scope s low (Then a t) e) in_scope) r.obeys)))
+    live vs low scope s (Both a t) n g in_scope =
         let p : 0 < act_size a = act_size_positive a in
         let p' : 0 < size t = size_positive t in
         let e : run low ≡ Runs scope s (Both a t) = g.each low (omega arith) (omega arith) ∙ fate_head inputs view scope s vs low (Both a t) n in
@@ -333,25 +333,25 @@ module _ (inputs : Inputs) (view : Sees) (run : ℕ → Fate) where
             (
               join_live (act_ends inputs view scope s a) (ends inputs view (bind scope (site a) (act_ends inputs view scope s a)) s t) (ap (term_end_at inputs view) f) i (ap (term_end_at inputs view) y),
               obeys_append inputs.count o (act_forms a) (forms t)
-                  (act_live vs low scope s a n.0 inner (live_head scope s low (Both a t) e) sc)
-                  (live (a ∷ vs) (low + act_size a) (bind scope (site a) (act_ends inputs view scope s a)) s t n.1 rest (scope_more vs low (low + act_size a) scope a (act_ends inputs view scope s a) sc l (omega arith) i)),
+                  (act_live vs low scope s a n.0 inner (live_head scope s low (Both a t) e) in_scope)
+                  (live (a ∷ vs) (low + act_size a) (bind scope (site a) (act_ends inputs view scope s a)) s t n.1 rest (scope_more vs low (low + act_size a) scope a (act_ends inputs view scope s a) in_scope l (omega arith) i)),
             ),
           ),
         )
 
     pub act_live : (vs : List Act) (low : ℕ) (scope : ℕ → Outcome) (s : ℕ) (a : Act) → NumberedAct vs low a → Agrees run (inside inputs view scope s a) (low + 1) (low + act_size a) → Live scope s a low → Scope vs low scope → Obeys inputs.count o (act_forms a)
-    act_live vs low scope s (Cycle p k) n g l sc = (rw n (after_live l.end l.begin), tt)
-    act_live vs low scope s (Set p r e) n g l sc = (rw n.0 (after_live l.end l.begin), tt)
-    act_live vs low scope s (Send p m e) n g l sc = (rw n.0 (sync_live l.begin (λ t k. at_since s _ (found_from (inputs.ack m) s (inputs.count - s) (λ u. nothing)) t (sym l.end ∙ k))), tt)
-    act_live vs low scope s (Recv p m) n g l sc = (rw n (sync_live l.begin (λ t k. at_since s _ (found_from (inputs.valid m) s (inputs.count - s) (λ u. record { number = inputs.data_at m u; atoms = Wire m u ∷ [] })) t (sym l.end ∙ k))), tt)
-    act_live vs low scope s (If p e t u w) n g l sc = if_live vs low scope s p e t u w n g l sc (live vs (low + 1) scope s t n.1) (live vs (low + (1 + size t)) scope s u n.2)
-    act_live vs low scope s (When p e t) n g l sc = when_live vs low scope s p e t n g l sc (live vs (low + 1) scope s t n.1)
-    act_live vs low scope s (Block p t) n g l sc =
+    act_live vs low scope s (Cycle p k) n g l in_scope = (rw n (after_live l.end l.begin), tt)
+    act_live vs low scope s (Set p r e) n g l in_scope = (rw n.0 (after_live l.end l.begin), tt)
+    act_live vs low scope s (Send p m e) n g l in_scope = (rw n.0 (sync_live l.begin (λ t k. at_since s _ (found_from (inputs.ack m) s (inputs.count - s) (λ u. nothing)) t (sym l.end ∙ k))), tt)
+    act_live vs low scope s (Recv p m) n g l in_scope = (rw n (sync_live l.begin (λ t k. at_since s _ (found_from (inputs.valid m) s (inputs.count - s) (λ u. record { number = inputs.data_at m u; atoms = Wire m u ∷ [] })) t (sym l.end ∙ k))), tt)
+    act_live vs low scope s (If p e t u w) n g l in_scope = if_live vs low scope s p e t u w n g l in_scope (live vs (low + 1) scope s t n.1) (live vs (low + (1 + size t)) scope s u n.2)
+    act_live vs low scope s (When p e t) n g l in_scope = when_live vs low scope s p e t n g l in_scope (live vs (low + 1) scope s t n.1)
+    act_live vs low scope s (Block p t) n g l in_scope =
         let w : (q : ℕ) → low + 1 ≤ q → q < low + 1 + size t → run q ≡ fate inputs view scope s t q = λ q i j. g.each q (omega arith) (omega arith) in
         let a = side_runs vs (low + 1) scope s t n.1 w in
         let begin_is : begin_at (run p) ≡ At s = rw n.0 l.begin in
         let end_is : end_at inputs view (run p) ≡ of_outcome (ends inputs view scope s t) = rw n.0 l.end in
-        (same_eq (a.0 ∙ sym begin_is), (same_eq (end_is ∙ sym a.1), live vs (low + 1) scope s t n.1 (record { each = w }) (scope_up vs low (low + 1) scope (omega arith) sc)))
-    act_live vs low scope s (Wait p y) n g l sc = (rw n.0 (wait_live (scope y) l.end l.begin ((sc y n.1).1)), tt)
-    act_live vs low scope s (Pure p e) n g l sc = (rw n.0 (same_eq (l.end ∙ sym l.begin)), tt)
-    act_live vs low scope s (Nothing p) n g l sc = (rw n (same_eq (l.end ∙ sym l.begin)), tt)
+        (same_eq (a.0 ∙ sym begin_is), (same_eq (end_is ∙ sym a.1), live vs (low + 1) scope s t n.1 (record { each = w }) (scope_up vs low (low + 1) scope (omega arith) in_scope)))
+    act_live vs low scope s (Wait p y) n g l in_scope = (rw n.0 (wait_live (scope y) l.end l.begin ((in_scope y n.1).1)), tt)
+    act_live vs low scope s (Pure p e) n g l in_scope = (rw n.0 (same_eq (l.end ∙ sym l.begin)), tt)
+    act_live vs low scope s (Nothing p) n g l in_scope = (rw n (same_eq (l.end ∙ sym l.begin)), tt)

@@ -23,24 +23,24 @@ use Rattle.core_term.proofs.Placed.{scoped_term}
 use Rattle.core_term.proofs.Sound.{has_either}
 use Rattle.core_term.proofs.Bounds.{source_site}
 
-in_left : (fs gs : List Formed) (b : Spot) (f : Form Spot) → IsFormed fs b f → IsFormed (fs ++ gs) b f
-in_left [] gs b f k = elim k [ ]
-in_left (h ∷ fs) gs b f (inl e) = inl e
-in_left (h ∷ fs) gs b f (inr k) = inr (in_left fs gs b f k)
+in_left : (all_forms more_forms : List Formed) (b : Spot) (f : Form Spot) → IsFormed all_forms b f → IsFormed (all_forms ++ more_forms) b f
+in_left [] more_forms b f k = elim k [ ]
+in_left (h ∷ all_forms) more_forms b f (inl e) = inl e
+in_left (h ∷ all_forms) more_forms b f (inr k) = inr (in_left all_forms more_forms b f k)
 
-in_right : (fs gs : List Formed) (b : Spot) (f : Form Spot) → IsFormed gs b f → IsFormed (fs ++ gs) b f
-in_right [] gs b f k = k
-in_right (h ∷ fs) gs b f k = inr (in_right fs gs b f k)
+in_right : (all_forms more_forms : List Formed) (b : Spot) (f : Form Spot) → IsFormed more_forms b f → IsFormed (all_forms ++ more_forms) b f
+in_right [] more_forms b f k = k
+in_right (h ∷ all_forms) more_forms b f k = inr (in_right all_forms more_forms b f k)
 
 -- a form that is not that of the begin of all
 abbrev Proper : Form Spot → Type 0
 Proper Start = ⊥
 Proper f = Unit {0}
 
-record Known (fs : List Formed) (b : Spot) : Type 0 where
+record Known (all_forms : List Formed) (b : Spot) : Type 0 where
   form : Form Spot
   proper : Proper form
-  formed : IsFormed fs b form
+  formed : IsFormed all_forms b form
 
 -- the forms of a part are among those of the whole
 mutual
@@ -138,8 +138,8 @@ module _ (body : Term) where
   abbrev InnerAct : List Act → Act → Type 0
   InnerAct vs a = (ws : List Act) (u : Term) → StandsIn vs a ws u → Stands [] body ws u
 
-  record Sited (ss : List Source) : Type 0 where
-    each : (a : Source) → Has ss a → IsSite (source_site a)
+  record Sited (from_sources : List Source) : Type 0 where
+    each : (a : Source) → Has from_sources a → IsSite (source_site a)
 
   abbrev AllSited : (ℕ → List Source) → Type 0
   AllSited variables = (y : ℕ) → Sited (variables y)
@@ -147,20 +147,20 @@ module _ (body : Term) where
   none : Sited []
   none = record { each = λ a k. elim k [ ] }
 
-  append : (cs ds : List Source) → Sited cs → Sited ds → Sited (cs ++ ds)
-  append cs ds k l = record { each = λ a i. elim (has_either cs ds a i) [ inl j ↦ k.each a j | inr j ↦ l.each a j ] }
+  append : (these others_there : List Source) → Sited these → Sited others_there → Sited (these ++ others_there)
+  append these others_there k l = record { each = λ a i. elim (has_either these others_there a i) [ inl j ↦ k.each a j | inr j ↦ l.each a j ] }
 
-  cons : (c : Source) (cs : List Source) → IsSite (source_site c) → Sited cs → Sited (c ∷ cs)
-  cons c cs k l = record { each = go }
+  cons : (c : Source) (these : List Source) → IsSite (source_site c) → Sited these → Sited (c ∷ these)
+  cons c these k l = record { each = go }
     where
-      go : (a : Source) → Has (c ∷ cs) a → IsSite (source_site a)
+      go : (a : Source) → Has (c ∷ these) a → IsSite (source_site a)
       go a (inl e) = rw e k
       go a (inr i) = l.each a i
 
-  bind_sited : (variables : ℕ → List Source) (p : ℕ) (ss : List Source) → AllSited variables → Sited ss → AllSited (bind_sources variables p ss)
-  bind_sited variables p ss k l y = go (y == p)
+  bind_sited : (variables : ℕ → List Source) (p : ℕ) (from_sources : List Source) → AllSited variables → Sited from_sources → AllSited (bind_sources variables p from_sources)
+  bind_sited variables p from_sources k l y = go (y == p)
     where
-      go : (b : Bool) → Sited (if b then ss else variables y)
+      go : (b : Bool) → Sited (if b then from_sources else variables y)
       go true = l
       go false = k y
 
@@ -262,7 +262,7 @@ module _ (body : Term) where
         let k = act_site (λ a. OnPort a n) w b in
         let v = user u _ s in
         (use_of_text (head u) _ _ v (end_real false q i), (((end_real false w k, end_real false q i), use_of_text (head u) _ _ v (end_real false w k)), use_of_text (head u) _ _ v (end_real true w k)))
-    of_text p j _ _ _ _ (set_elsewhere u q r i w other s found ne written) = use_of_text (head u) _ _ (user u _ s) (begin_real false q (source u (RegOf q r) s))
+    of_text p j _ _ _ _ (set_elsewhere u q r i w other s found different written) = use_of_text (head u) _ _ (user u _ s) (begin_real false q (source u (RegOf q r) s))
     of_text p j _ _ _ _ (set_here u q r w s written) =
         let i = source u (RegOf q r) s in
         let k = act_site (λ a. Sets a r) w written in

@@ -248,17 +248,17 @@ module _ (inputs : Inputs) (registers : ℕ → ℕ → ℕ) where
 
   has_offer : (threads : List Thread) (m t : ℕ) → (j : ℕ) (thread : Thread) → IsThread threads j thread → (i q : ℕ) → i < t + 1 → q < thread.count → (b : Begun inputs registers thread.body i q) → OnPort (head b.term) m
       → IsPending t b.begin (act_ends inputs (sees registers) b.scope b.begin (head b.term)) → has (offered inputs registers threads m t) ≡ true
-  has_offer [] m t j thread is i q l n b on pend = elim is [ ]
-  has_offer (a ∷ more) m t zero thread is i q l n b on pend =
+  has_offer [] m t j thread is i q l n b on still_offered = elim is [ ]
+  has_offer (a ∷ more) m t zero thread is i q l n b on still_offered =
       or_first _ (offered inputs registers more m t) (subst (λ z. has (least (λ q. greatest (λ i. offered_by inputs registers m t (run_of inputs (sees registers) z.body i q)) (t + 1)) 0 z.count) ≡ true) (sym is)
       (least_has _ 0 thread.count q (omega arith) (omega arith) (greatest_has _ (t + 1) i l one)))
     where
       one : has (offered_by inputs registers m t (run_of inputs (sees registers) thread.body i q)) ≡ true
       one =
-          let y : on_port m (head b.term) && pending t b.begin (act_ends inputs (sees registers) b.scope b.begin (head b.term)) ≡ true = and_both _ _ (is_on m (head b.term) on) (is_pending t b.begin _ pend) in
+          let y : on_port m (head b.term) && pending t b.begin (act_ends inputs (sees registers) b.scope b.begin (head b.term)) ≡ true = and_both _ _ (is_on m (head b.term) on) (is_pending t b.begin _ still_offered) in
           let z : offered_by inputs registers m t (Runs b.scope b.begin b.term) ≡ Some (record { scope = b.scope; begin = b.begin; act = head b.term }) = rw y refl in
           ap (λ w. has (offered_by inputs registers m t w)) b.runs ∙ ap has z
-  has_offer (a ∷ more) m t (suc j) thread is i q l n b on pend = or_second _ (offered inputs registers more m t) (has_offer more m t j thread is i q l n b on pend)
+  has_offer (a ∷ more) m t (suc j) thread is i q l n b on still_offered = or_second _ (offered inputs registers more m t) (has_offer more m t j thread is i q l n b on still_offered)
 
   module _ (p : Process) (process : IsProcess p) where
     pub is_driven : (m t : ℕ) → OfferedIn p.threads m t → driven p inputs registers m t ≡ true

@@ -47,10 +47,10 @@ module _ (inputs : Inputs) (view : Sees) where
     obeys None = rests inputs view (λ q. Waits) [] 0 body Waits idle_later numbered (record { each = λ q l m. refl }) (λ y b g. elim b [ ])
     obeys (Some s) = live inputs view (fate inputs view no_variable s body) [] 0 no_variable s body numbered (record { each = λ q l m. refl }) (λ y b. elim b [ ])
 
-    rule_in : (o : Spot → Occurrence) (fs : List Formed) (b : Spot) (f : Form Spot) → Obeys inputs.count o fs → IsFormed fs b f → LocalRule inputs.count o b f
+    rule_in : (o : Spot → Occurrence) (all_forms : List Formed) (b : Spot) (f : Form Spot) → Obeys inputs.count o all_forms → IsFormed all_forms b f → LocalRule inputs.count o b f
     rule_in o [] b f k m = elim m [ ]
-    rule_in o (g ∷ gs) b f k (inl e) = let P : Formed → Type 0 = λ z. LocalRule inputs.count o z.spot z.form in subst P e k.0
-    rule_in o (g ∷ gs) b f k (inr m) = rule_in o gs b f k.1 m
+    rule_in o (g ∷ more_forms) b f k (inl e) = let P : Formed → Type 0 = λ z. LocalRule inputs.count o z.spot z.form in subst P e k.0
+    rule_in o (g ∷ more_forms) b f k (inr m) = rule_in o more_forms b f k.1 m
 
     pub rule : (o : Option ℕ) (b : Spot) (f : Form Spot) → IsFormed (forms body) b f → LocalRule inputs.count (occurrence inputs view (run_from inputs view body o)) b f
     rule o b f m = rule_in _ (forms body) b f (obeys o) m

@@ -288,10 +288,10 @@ module _ (inputs : Inputs) (view : Sees) (body : Term) (numbered : Numbered [] 0
           let P : ℕ → Type 0 = λ z. begins inputs view body z ≡ Some g.0 in
           let a = set_earlier j d w scope' s r v m l g.0 (subst P z g.2) in
           let c = g.3.fits.0 in absurd (omega arith)
-      go (same z) = (z, apart_or (dec q w))
+      go (same z) = (z, apart_or (same_or_not q w))
         where
-          dec : (a c : ℕ) → (a ≡ c) ⊎ (a ≡ c → ⊥)
-          dec a c = grind arith
+          same_or_not : (a c : ℕ) → (a ≡ c) ⊎ (a ≡ c → ⊥)
+          same_or_not a c = grind arith
 
           apart_or : (q ≡ w) ⊎ (q ≡ w → ⊥) → q ≡ w
           apart_or (inl e) = e

@@ -57,8 +57,8 @@ module _ (p : Process) (process : IsProcess p) (accepted : IsAccepted p) (inputs
   down (Until n ∷ more) t u v l k = ((λ c a b e. k.0 c a (omega arith) e), down more t u v l k.1)
 
   quiet_wire : (m t v : ℕ) → is_received p m ≡ false → Exchange (wires p inputs registers) m t → t < v → InLife (wires p inputs registers) (life_of p m) t v → OfferedIn inputs registers p.threads m v → ⊥
-  quiet_wire m t v side exch less life o =
-      let z = ended_by inputs registers p process m t exch in
+  quiet_wire m t v side exchanging less life o =
+      let z = ended_by inputs registers p process m t exchanging in
       let e = z.0 in
       let act_e = begun_act inputs registers e.thread.body (process.numbered e.j e.thread e.is) (λ a. OnPort a m) e.turn e.place e.act e.on in
       let act_o = begun_act inputs registers o.thread.body (process.numbered o.j o.thread o.is) (λ a. OnPort a m) o.turn o.place o.act o.on in
@@ -73,10 +73,10 @@ module _ (p : Process) (process : IsProcess p) (accepted : IsAccepted p) (inputs
 
   -- the promise of a sent port
   promise : (m : ℕ) → is_received p m ≡ false → IsKept (wires p inputs registers) (life_of p m) m (inputs.count - 1)
-  promise m side t u exch l life = go (nat_lt t u) refl
+  promise m side t u exchanging l life = go (nat_lt t u) refl
     where
       short : u < inputs.count
-      short = let c : t < inputs.count = exch.0 in omega arith
+      short = let c : t < inputs.count = exchanging.0 in omega arith
 
       shown : (v : ℕ) → data_wire p inputs registers m v ≡ shown_data p inputs registers m v (offered inputs registers p.threads m v)
       shown v = rw side refl
@@ -86,21 +86,21 @@ module _ (p : Process) (process : IsProcess p) (accepted : IsAccepted p) (inputs
       first = with_offer (offered inputs registers p.threads m t) driven_then
         where
           driven_then : has (offered inputs registers p.threads m t) ≡ true
-          driven_then = let z : (if is_received p m then inputs.valid m t else driven p inputs registers m t) ≡ true = exch.1 in rw side at z
+          driven_then = let z : (if is_received p m then inputs.valid m t else driven p inputs registers m t) ≡ true = exchanging.1 in rw side at z
 
           with_offer : (o : Option Offer) → has o ≡ true → shown_data p inputs registers m t o ≡ data_of registers o
           with_offer None k = absurd cc
           with_offer (Some a) k = refl
 
       none_after : (v : ℕ) → t < v → v ≤ u → OfferedIn inputs registers p.threads m v → ⊥
-      none_after v a b o = quiet_wire m t v side exch a (omega arith, down (life_of p m) t u v b life.1) o
+      none_after v a b o = quiet_wire m t v side exchanging a (omega arith, down (life_of p m) t u v b life.1) o
 
       no_exchange : (v : ℕ) → t < v → v < u + 1 → exchange p inputs registers m v ≡ true → ⊥
       no_exchange v a b e = none_after v a (omega arith) (ended_by inputs registers p process m v (is_exchange m v (let s = short in omega arith) e)).0
 
       latest_is : latest (exchange p inputs registers m) u ≡ Some t
       latest_is =
-          let e : exchange p inputs registers m t ≡ true = and_both (valid_wire p inputs registers m t) (ack_wire p inputs registers m t) exch.1 exch.2 in
+          let e : exchange p inputs registers m t ≡ true = and_both (valid_wire p inputs registers m t) (ack_wire p inputs registers m t) exchanging.1 exchanging.2 in
           greatest_at (λ v. if exchange p inputs registers m v then Some v else None) (u + 1) t (omega (arith, life.0)) (rw e refl) (λ v a b. not_then v (exchange p inputs registers m v) refl a b)
         where
           not_then : (v : ℕ) (b : Bool) → exchange p inputs registers m v ≡ b → t < v → v < u + 1 → (if b then Some v else None) ≡ None
@@ -120,31 +120,31 @@ module _ (p : Process) (process : IsProcess p) (accepted : IsAccepted p) (inputs
   -- the numbers of two threads with one act each that are one thread
   pub safe_set : (i j : ℕ) (thread thread' : Thread) (is : IsThread p.threads i thread) (is' : IsThread p.threads j thread') (turn place turn' place' r : ℕ) (b : Begun inputs registers thread.body turn place) (a : Begun inputs registers thread'.body turn' place') → Sets (head b.term) r → Sets (head a.term) r → b.begin ≡ a.begin → (i ≡ j) × (turn ≡ turn') × (place ≡ place')
   safe_set i j thread thread' is is' turn place turn' place' r b a k l e =
-      let sb = begun_act inputs registers thread.body (process.numbered i thread is) (λ a. Sets a r) turn place b k in
-      let sa = begun_act inputs registers thread'.body (process.numbered j thread' is') (λ a. Sets a r) turn' place' a l in
-      let ij : j ≡ i = sym (process.one_setter i j thread thread' place place' r is is' sb sa) in
-      let f : thread' ≡ thread = same_thread p.threads i thread' thread (subst (λ z. IsThread p.threads z thread') ij is') is in
+      let first_act = begun_act inputs registers thread.body (process.numbered i thread is) (λ a. Sets a r) turn place b k in
+      let second_act = begun_act inputs registers thread'.body (process.numbered j thread' is') (λ a. Sets a r) turn' place' a l in
+      let one_number : j ≡ i = sym (process.one_setter i j thread thread' place place' r is is' first_act second_act) in
+      let f : thread' ≡ thread = same_thread p.threads i thread' thread (subst (λ z. IsThread p.threads z thread') one_number is') is in
       let P : Thread → Type 0 = λ z. (c : Begun inputs registers z.body turn' place') × Sets (head c.term) r × (b.begin ≡ c.begin) in
       let a' = subst P f (a, l, e) in
       let z = one_set p process inputs registers i thread is (accepted i thread is) turn place turn' place' r b a'.0 k a'.1 a'.2 in
-      (sym ij, z.0, z.1)
+      (sym one_number, z.0, z.1)
 
   safe_once : (i j : ℕ) (thread thread' : Thread) (is : IsThread p.threads i thread) (is' : IsThread p.threads j thread') (turn place turn' place' m t : ℕ) (b : Begun inputs registers thread.body turn place) (a : Begun inputs registers thread'.body turn' place') → OnPort (head b.term) m → OnPort (head a.term) m → EndsIn b t → EndsIn a t → (i ≡ j) × (turn ≡ turn') × (place ≡ place')
   safe_once i j thread thread' is is' turn place turn' place' m t b a k l e e' =
-      let sb = begun_act inputs registers thread.body (process.numbered i thread is) (λ a. OnPort a m) turn place b k in
-      let sa = begun_act inputs registers thread'.body (process.numbered j thread' is') (λ a. OnPort a m) turn' place' a l in
-      let ij : j ≡ i = sym (process.one_talker i j thread thread' place place' m m is is' sb sa refl) in
-      let f : thread' ≡ thread = same_thread p.threads i thread' thread (subst (λ z. IsThread p.threads z thread') ij is') is in
+      let first_act = begun_act inputs registers thread.body (process.numbered i thread is) (λ a. OnPort a m) turn place b k in
+      let second_act = begun_act inputs registers thread'.body (process.numbered j thread' is') (λ a. OnPort a m) turn' place' a l in
+      let one_number : j ≡ i = sym (process.one_talker i j thread thread' place place' m m is is' first_act second_act refl) in
+      let f : thread' ≡ thread = same_thread p.threads i thread' thread (subst (λ z. IsThread p.threads z thread') one_number is') is in
       let P : Thread → Type 0 = λ z. (c : Begun inputs registers z.body turn' place') × OnPort (head c.term) m × EndsIn c t in
       let a' = subst P f (a, l, e') in
       let z = once p process inputs registers i thread is (accepted i thread is) turn place turn' place' m t b a'.0 k a'.1 e a'.2 in
-      (sym ij, z.0, z.1)
+      (sym one_number, z.0, z.1)
 
   pub safe_register : (j turn place c r t : ℕ) → UsedIn p inputs registers j turn place c (Register r t) → (i : ℕ) (thread : Thread) → IsThread p.threads i thread → (turn' place' : ℕ) (a : Begun inputs registers thread.body turn' place') → Sets (head a.term) r → t ≤ a.begin → a.begin < c → ⊥
-  safe_register j turn place c r t u i thread is turn' place' a sets l l' = go (dec i j)
+  safe_register j turn place c r t u i thread is turn' place' a sets l l' = go (same_or_not i j)
     where
-      dec : (a c : ℕ) → (a ≡ c) ⊎ (a ≡ c → ⊥)
-      dec a c = grind arith
+      same_or_not : (a c : ℕ) → (a ≡ c) ⊎ (a ≡ c → ⊥)
+      same_or_not a c = grind arith
 
       go : (i ≡ j) ⊎ (i ≡ j → ⊥) → ⊥
       go (inl e) =
@@ -152,8 +152,8 @@ module _ (p : Process) (process : IsProcess p) (accepted : IsAccepted p) (inputs
           let P : Thread → Type 0 = λ z. (c : Begun inputs registers z.body turn' place') × Sets (head c.term) r × (c.begin ≡ a.begin) in
           let a' = subst P f (a, sets, refl) in
           register_here p process inputs registers j u.thread u.is (accepted j u.thread u.is) turn place c r t u.act (u.expr, u.uses, u.in_use, u.has) turn' place' a'.0 a'.1 (omega (arith, a'.2)) (omega (arith, a'.2))
-      go (inr ne) =
-          let y = register_elsewhere p process inputs registers j u.thread u.is (accepted j u.thread u.is) turn place c r t u.act (u.expr, u.uses, u.in_use, u.has) i place' thread is ne (begun_act inputs registers thread.body (process.numbered i thread is) (λ a. Sets a r) turn' place' a sets) in
+      go (inr different) =
+          let y = register_elsewhere p process inputs registers j u.thread u.is (accepted j u.thread u.is) turn place c r t u.act (u.expr, u.uses, u.in_use, u.has) i place' thread is different (begun_act inputs registers thread.body (process.numbered i thread is) (λ a. Sets a r) turn' place' a sets) in
           omega arith
 
   pub safe_side : (j turn place c q t : ℕ) (u : UsedIn p inputs registers j turn place c (Choice q t)) → (turn' : ℕ) (a : Begun inputs registers u.thread.body turn' q) → t < a.begin → a.begin ≤ c → ⊥

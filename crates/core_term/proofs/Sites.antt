@@ -63,11 +63,11 @@ module _ (inputs : Inputs) (view : Sees) (run : ℕ → Fate) (top : Term) (star
 
   -- from here on where q is the first site, and else further in
   split : (vs : List Act) (low : ℕ) (variables : ℕ → Outcome) (s : ℕ) (t : Term) (q : ℕ) → Numbered vs low t → Agrees run (fate inputs view variables s t) low (low + size t) → Scope inputs view run vs low variables → Inner vs t → K vs variables → Fits s → low ≤ q → (low < q → Found q) → Found q
-  split vs low variables s t q n g sc st kn ft l f = go (nat_lt low q) refl
+  split vs low variables s t q n g in_scope in_text carried_on in_list l f = go (nat_lt low q) refl
     where
       go : (b : Bool) → nat_lt low q ≡ b → Found q
       go true k = let m : low < q = grind (arith, nat_tests) in f m
-      go false k = let m : q ≤ low = grind (arith, nat_tests) in let m' : low ≡ q = omega arith in at_lo m' (found_here vs variables s t low (record { numbered = n; agrees = g; scope = sc; stands = st vs t here; known = kn; fits = ft }))
+      go false k = let m : q ≤ low = grind (arith, nat_tests) in let m' : low ≡ q = omega arith in at_lo m' (found_here vs variables s t low (record { numbered = n; agrees = g; scope = in_scope; stands = in_text vs t here; known = carried_on; fits = in_list }))
 
   abbrev Search : ℕ → ℕ → ℕ → Type 0
   Search q low high = low ≤ q → q < high → Found q
@@ -85,7 +85,7 @@ module _ (inputs : Inputs) (view : Sees) (run : ℕ → Fate) (top : Term) (star
   then_more : (q : ℕ) (vs : List Act) (low : ℕ) (variables : ℕ → Outcome) (s : ℕ) (a : Act) (t : Term) → Numbered vs low (Then a t) → Agrees run (fate inputs view variables s (Then a t)) low (low + size (Then a t)) → Scope inputs view run vs low variables → K vs variables → Fits s
       → ((variables' : ℕ → Outcome) (s' : ℕ) → Agrees run (fate inputs view variables' s' t) (low + act_size a) (low + act_size a + size t) → Scope inputs view run (a ∷ vs) (low + act_size a) variables' → K (a ∷ vs) variables' → Fits s' → Search q (low + act_size a) (low + act_size a + size t))
       → Search q (low + act_size a) (low + act_size a + size t)
-  then_more q vs low variables s a t n g sc kn ft f =
+  then_more q vs low variables s a t n g in_scope carried_on in_list f =
       let p : 0 < act_size a = act_size_positive a in
       let m : site (head t) ≡ low + act_size a = head_site _ _ t n.1 in
       go (act_ends inputs view variables s a) refl (λ q i j. g.each q (omega arith) (omega arith) ∙ pick_ge q (site (head t)) _ _ (omega arith))
@@ -100,9 +100,9 @@ module _ (inputs : Inputs) (view : Sees) (run : ℕ → Fate) (top : Term) (star
           done false u = idle_found Waits q idle_later (let z = w q l k in rw u at z)
           done true u =
               let p : 0 < act_size a = act_size_positive a in
-              f (bind variables (site a) (Done c v)) c (record { each = λ q i j. let z = w q i j in rw u at z }) (scope_more inputs view run vs low (low + act_size a) variables a (Done c v) sc (act_site vs low a n.0) (omega arith) e)
-              (carry vs low variables s a (Then a t) (Done c v) n.0 (then_inner inputs view run vs low variables s a t n g) refl (runs_here inputs view run vs low variables s (Then a t) n g) kn r)
-              (let z : s ≤ c = act_from inputs view variables s a c (ap of_outcome r) in let y : c < inputs.count = grind (arith, nat_tests) in let w : start ≤ s = ft.0 in (omega arith, y)) l k
+              f (bind variables (site a) (Done c v)) c (record { each = λ q i j. let z = w q i j in rw u at z }) (scope_more inputs view run vs low (low + act_size a) variables a (Done c v) in_scope (act_site vs low a n.0) (omega arith) e)
+              (carry vs low variables s a (Then a t) (Done c v) n.0 (then_inner inputs view run vs low variables s a t n g) refl (runs_here inputs view run vs low variables s (Then a t) n g) carried_on r)
+              (let z : s ≤ c = act_from inputs view variables s a c (ap of_outcome r) in let y : c < inputs.count = grind (arith, nat_tests) in let w : start ≤ s = in_list.0 in (omega arith, y)) l k
 
   side_more : (q : ℕ) (b : Bool) (vs : List Act) (low : ℕ) (variables : ℕ → Outcome) (s : ℕ) (t : Term) → ((q : ℕ) → low ≤ q → q < low + size t → run q ≡ (if b then fate inputs view variables s t q else Lost)) → (Agrees run (fate inputs view variables s t) low (low + size t) → Search q low (low + size t)) → Search q low (low + size t)
   side_more q true vs low variables s t w f l m = f (record { each = w }) l m
@@ -114,40 +114,40 @@ module _ (inputs : Inputs) (view : Sees) (run : ℕ → Fate) (top : Term) (star
 
   mutual
     pub sub : (q : ℕ) (vs : List Act) (low : ℕ) (variables : ℕ → Outcome) (s : ℕ) (t : Term) → Numbered vs low t → Agrees run (fate inputs view variables s t) low (low + size t) → Scope inputs view run vs low variables → Inner vs t → K vs variables → Fits s → Search q low (low + size t)
-    sub q vs low variables s (One a) n g sc st kn ft l m =
-        split vs low variables s (One a) q n g sc st kn ft l (λ k. act_sub q vs low variables s a n (one_inner inputs view run vs low variables s a n g) sc (λ ws u z. st ws u (in_one z)) kn ft (omega arith) m)
-    sub q vs low variables s (Then a t) n g sc st kn ft l m =
-        split vs low variables s (Then a t) q n g sc st kn ft l (λ k.
+    sub q vs low variables s (One a) n g in_scope in_text carried_on in_list l m =
+        split vs low variables s (One a) q n g in_scope in_text carried_on in_list l (λ k. act_sub q vs low variables s a n (one_inner inputs view run vs low variables s a n g) in_scope (λ ws u z. in_text ws u (in_one z)) carried_on in_list (omega arith) m)
+    sub q vs low variables s (Then a t) n g in_scope in_text carried_on in_list l m =
+        split vs low variables s (Then a t) q n g in_scope in_text carried_on in_list l (λ k.
         join q (low + 1) (low + act_size a) (low + act_size a + size t)
-        (act_sub q vs low variables s a n.0 (then_inner inputs view run vs low variables s a t n g) sc (λ ws u z. st ws u (in_then z)) kn ft)
-        (then_more q vs low variables s a t n g sc kn ft (λ variables' s' g' sc' kn' ft'. sub q (a ∷ vs) (low + act_size a) variables' s' t n.1 g' sc' (λ ws u z. st ws u (after_then z)) kn' ft'))
+        (act_sub q vs low variables s a n.0 (then_inner inputs view run vs low variables s a t n g) in_scope (λ ws u z. in_text ws u (in_then z)) carried_on in_list)
+        (then_more q vs low variables s a t n g in_scope carried_on in_list (λ variables' s' g' in_scope' carried' in_list'. sub q (a ∷ vs) (low + act_size a) variables' s' t n.1 g' in_scope' (λ ws u z. in_text ws u (after_then z)) carried' in_list'))
         (omega arith) (omega arith))
-    sub q vs low variables s (Both a t) n g sc st kn ft l m =
+    sub q vs low variables s (Both a t) n g in_scope in_text carried_on in_list l m =
         let p : 0 < act_size a = act_size_positive a in
-        split vs low variables s (Both a t) q n g sc st kn ft l (λ k.
+        split vs low variables s (Both a t) q n g in_scope in_text carried_on in_list l (λ k.
         join q (low + 1) (low + act_size a) (low + act_size a + size t)
-        (act_sub q vs low variables s a n.0 (both_inner inputs view run vs low variables s a t n g) sc (λ ws u z. st ws u (in_both z)) kn ft)
+        (act_sub q vs low variables s a n.0 (both_inner inputs view run vs low variables s a t n g) in_scope (λ ws u z. in_text ws u (in_both z)) carried_on in_list)
         (sub q (a ∷ vs) (low + act_size a) (bind variables (site a) (act_ends inputs view variables s a)) s t n.1 (both_rest inputs view run vs low variables s a t n g)
-        (scope_more inputs view run vs low (low + act_size a) variables a (act_ends inputs view variables s a) sc (act_site vs low a n.0) (omega arith)
+        (scope_more inputs view run vs low (low + act_size a) variables a (act_ends inputs view variables s a) in_scope (act_site vs low a n.0) (omega arith)
         (end_found vs low variables s a (Both a t) (act_site vs low a n.0) refl (runs_here inputs view run vs low variables s (Both a t) n g)))
-        (λ ws u z. st ws u (after_both z))
-        (carry vs low variables s a (Both a t) (act_ends inputs view variables s a) n.0 (both_inner inputs view run vs low variables s a t n g) refl (runs_here inputs view run vs low variables s (Both a t) n g) kn refl)
-        ft)
+        (λ ws u z. in_text ws u (after_both z))
+        (carry vs low variables s a (Both a t) (act_ends inputs view variables s a) n.0 (both_inner inputs view run vs low variables s a t n g) refl (runs_here inputs view run vs low variables s (Both a t) n g) carried_on refl)
+        in_list)
         (omega arith) (omega arith))
 
     pub act_sub : (q : ℕ) (vs : List Act) (low : ℕ) (variables : ℕ → Outcome) (s : ℕ) (a : Act) → NumberedAct vs low a → Agrees run (inside inputs view variables s a) (low + 1) (low + act_size a) → Scope inputs view run vs low variables → InnerAct vs a → K vs variables → Fits s → Search q (low + 1) (low + act_size a)
-    act_sub q vs low variables s (If p e t f w) n g sc st kn ft l m =
+    act_sub q vs low variables s (If p e t f w) n g in_scope in_text carried_on in_list l m =
         join q (low + 1) (low + (1 + size t)) (low + (1 + size t) + size f)
-        (λ l' m'. side_more q (view.decide p s variables e) vs (low + 1) variables s t (if_yes_is inputs view run vs low variables s p e t f w n g) (λ g'. sub q vs (low + 1) variables s t n.1 g' (scope_up inputs view run vs low (low + 1) variables (omega arith) sc) (λ ws u z. st ws u (in_yes z)) kn ft) l' (omega arith))
-        (other_more q (view.decide p s variables e) vs (low + (1 + size t)) variables s f (if_no_is inputs view run vs low variables s p e t f w n g) (λ g'. sub q vs (low + (1 + size t)) variables s f n.2 g' (scope_up inputs view run vs low (low + (1 + size t)) variables (omega arith) sc) (λ ws u z. st ws u (in_no z)) kn ft))
+        (λ l' m'. side_more q (view.decide p s variables e) vs (low + 1) variables s t (if_yes_is inputs view run vs low variables s p e t f w n g) (λ g'. sub q vs (low + 1) variables s t n.1 g' (scope_up inputs view run vs low (low + 1) variables (omega arith) in_scope) (λ ws u z. in_text ws u (in_yes z)) carried_on in_list) l' (omega arith))
+        (other_more q (view.decide p s variables e) vs (low + (1 + size t)) variables s f (if_no_is inputs view run vs low variables s p e t f w n g) (λ g'. sub q vs (low + (1 + size t)) variables s f n.2 g' (scope_up inputs view run vs low (low + (1 + size t)) variables (omega arith) in_scope) (λ ws u z. in_text ws u (in_no z)) carried_on in_list))
         l (omega arith)
-    act_sub q vs low variables s (When p e t) n g sc st kn ft l m =
-        side_more q (view.decide p s variables e) vs (low + 1) variables s t (λ q i j. g.each q (omega arith) (omega arith)) (λ g'. sub q vs (low + 1) variables s t n.1 g' (scope_up inputs view run vs low (low + 1) variables (omega arith) sc) (λ ws u z. st ws u (in_when z)) kn ft) l (omega arith)
-    act_sub q vs low variables s (Block p t) n g sc st kn ft l m = sub q vs (low + 1) variables s t n.1 (block_in inputs view run low variables s p t g) (scope_up inputs view run vs low (low + 1) variables (omega arith) sc) (λ ws u z. st ws u (in_block z)) kn ft l (omega arith)
-    act_sub q vs low variables s (Cycle p k) n g sc st kn ft l m = absurd (omega arith)
-    act_sub q vs low variables s (Set p r e) n g sc st kn ft l m = absurd (omega arith)
-    act_sub q vs low variables s (Send p k e) n g sc st kn ft l m = absurd (omega arith)
-    act_sub q vs low variables s (Recv p k) n g sc st kn ft l m = absurd (omega arith)
-    act_sub q vs low variables s (Wait p y) n g sc st kn ft l m = absurd (omega arith)
-    act_sub q vs low variables s (Pure p e) n g sc st kn ft l m = absurd (omega arith)
-    act_sub q vs low variables s (Nothing p) n g sc st kn ft l m = absurd (omega arith)
+    act_sub q vs low variables s (When p e t) n g in_scope in_text carried_on in_list l m =
+        side_more q (view.decide p s variables e) vs (low + 1) variables s t (λ q i j. g.each q (omega arith) (omega arith)) (λ g'. sub q vs (low + 1) variables s t n.1 g' (scope_up inputs view run vs low (low + 1) variables (omega arith) in_scope) (λ ws u z. in_text ws u (in_when z)) carried_on in_list) l (omega arith)
+    act_sub q vs low variables s (Block p t) n g in_scope in_text carried_on in_list l m = sub q vs (low + 1) variables s t n.1 (block_in inputs view run low variables s p t g) (scope_up inputs view run vs low (low + 1) variables (omega arith) in_scope) (λ ws u z. in_text ws u (in_block z)) carried_on in_list l (omega arith)
+    act_sub q vs low variables s (Cycle p k) n g in_scope in_text carried_on in_list l m = absurd (omega arith)
+    act_sub q vs low variables s (Set p r e) n g in_scope in_text carried_on in_list l m = absurd (omega arith)
+    act_sub q vs low variables s (Send p k e) n g in_scope in_text carried_on in_list l m = absurd (omega arith)
+    act_sub q vs low variables s (Recv p k) n g in_scope in_text carried_on in_list l m = absurd (omega arith)
+    act_sub q vs low variables s (Wait p y) n g in_scope in_text carried_on in_list l m = absurd (omega arith)
+    act_sub q vs low variables s (Pure p e) n g in_scope in_text carried_on in_list l m = absurd (omega arith)
+    act_sub q vs low variables s (Nothing p) n g in_scope in_text carried_on in_list l m = absurd (omega arith)

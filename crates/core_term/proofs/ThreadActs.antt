@@ -23,7 +23,7 @@ use Rattle.core_term.specs.Outputs.{wires}
 use Rattle.core_term.specs.Order.{point}
 use Rattle.core_term.specs.Rules.{RestsOn}
 use Rattle.core_term.specs.Log.{Begun, EndsIn, InUse}
-use Rattle.core_term.specs.Occurs as occ
+use Rattle.core_term.specs.Occurs as occurs
 use Rattle.core_term.proofs.Live.{Agrees}
 use Rattle.core_term.proofs.Order.{Occurs, later_turn}
 use Rattle.core_term.proofs.Sites.{Found, sub}
@@ -59,7 +59,7 @@ module _ (p : Process) (process : IsProcess p) (inputs : Inputs) (registers : �
   abbrev pub At : ℕ → ℕ → Type 0
   At turn place = Begun inputs registers thread.body turn place
 
-  abbrev pub stage : ℕ → Spot → occ.Occurrence
+  abbrev pub stage : ℕ → Spot → occurs.Occurrence
   stage turn = occurrence inputs (sees registers) (run_of inputs (sees registers) thread.body turn)
 
   pub start : (turn place : ℕ) (b : At turn place) → (s : ℕ) × (begins inputs (sees registers) thread.body turn ≡ Some s) × (s ≤ b.begin) × (b.begin < inputs.count)
@@ -82,7 +82,7 @@ module _ (p : Process) (process : IsProcess p) (inputs : Inputs) (registers : �
   pub rests : (turn place : ℕ) (b : At turn place) (e : Expr) → Uses (head b.term) e → (a : Atom) → Has (value registers b.scope b.begin e).atoms a → (c : Source) × RestsOn thread.body b.term c × Matches inputs (sees registers) (run_of inputs (sees registers) thread.body turn) c a
   rests turn place b e u a i =
       let z = place_of inputs (sees registers) thread.body numbered turn place b.scope b.begin b.term (ran inputs registers thread.body numbered turn place b) in
-      let f : stage turn (Begin (site (head b.term))) ≡ occ.At b.begin = rw (begun_site inputs registers thread.body numbered turn place b) (at_begin p process inputs registers j thread is turn place b) in
+      let f : stage turn (Begin (site (head b.term))) ≡ occurs.At b.begin = rw (begun_site inputs registers thread.body numbered turn place b) (at_begin p process inputs registers j thread is turn place b) in
       let c = (expr_covers inputs (sees registers) (run_of inputs (sees registers) thread.body turn) (sources_in z.1) b.scope (site (head b.term)) b.begin e f z.3.known).each a i in
       (c.0, record { scope = z.1; stands = z.3.stands; value = e; uses = u; has = c.1 }, c.2)
 
@@ -126,11 +126,11 @@ module _ (p : Process) (process : IsProcess p) (inputs : Inputs) (registers : �
       (w.0, e, omega (arith, w.2, z.1), λ t. let v = w'.1 t w.0 w.1 in omega (arith, z.1))
 
   -- a later turn as the second of two
-  pub occurs_next : (turn k turn' : ℕ) → turn' ≡ suc (k + turn) → (spot : Spot) (t : ℕ) → stage turn' spot ≡ occ.At t → Occurs inputs (sees registers) thread.body numbered turn k (point true spot) t
-  occurs_next turn k turn' e spot t f = let P : ℕ → Type 0 = λ z. stage z spot ≡ occ.At t in subst P e f
+  pub occurs_next : (turn k turn' : ℕ) → turn' ≡ suc (k + turn) → (spot : Spot) (t : ℕ) → stage turn' spot ≡ occurs.At t → Occurs inputs (sees registers) thread.body numbered turn k (point true spot) t
+  occurs_next turn k turn' e spot t f = let P : ℕ → Type 0 = λ z. stage z spot ≡ occurs.At t in subst P e f
 
-  pub stage_eq : (turn turn' : ℕ) → turn' ≡ turn → (spot : Spot) (t : ℕ) → stage turn' spot ≡ occ.At t → stage turn spot ≡ occ.At t
-  stage_eq turn turn' e spot t f = let P : ℕ → Type 0 = λ z. stage z spot ≡ occ.At t in subst P e f
+  pub stage_eq : (turn turn' : ℕ) → turn' ≡ turn → (spot : Spot) (t : ℕ) → stage turn' spot ≡ occurs.At t → stage turn spot ≡ occurs.At t
+  stage_eq turn turn' e spot t f = let P : ℕ → Type 0 = λ z. stage z spot ≡ occurs.At t in subst P e f
 
   -- an exchange of a port of the same endpoint ends an act of this thread
   pub own_end : (q m n t : ℕ) → ActOn thread.body q m → endpoint_of p n ≡ endpoint_of p m → Exchange (wires p inputs registers) n t → (turn place : ℕ) × (b : At turn place) × OnPort (head b.term) n × EndsIn b t

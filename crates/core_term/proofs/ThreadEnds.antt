@@ -23,7 +23,7 @@ use Rattle.core_term.specs.Outputs.{wires}
 use Rattle.core_term.proofs.Premises.{SetsApart}
 use Rattle.core_term.specs.Rules.{Holds, use_by, RestsOn, Demands, Meets}
 use Rattle.core_term.specs.Log.{Begun, EndsIn, InUse}
-use Rattle.core_term.specs.Occurs as occ
+use Rattle.core_term.specs.Occurs as occurs
 use Rattle.core_term.specs.Rules as demand
 use Rattle.core_term.proofs.Order.{act_from}
 use Rattle.core_term.proofs.Tails.{IsTalk}
@@ -40,7 +40,7 @@ module _ (p : Process) (process : IsProcess p) (inputs : Inputs) (registers : �
   abbrev At : ℕ → ℕ → Type 0
   At turn place = Begun inputs registers thread.body turn place
 
-  abbrev stage : ℕ → Spot → occ.Occurrence
+  abbrev stage : ℕ → Spot → occurs.Occurrence
   stage turn = occurrence inputs (sees registers) (run_of inputs (sees registers) thread.body turn)
 
   module _ (meets : Meets p j thread.body) where
@@ -72,7 +72,7 @@ module _ (p : Process) (process : IsProcess p) (inputs : Inputs) (registers : �
     -- of two sends of a port in a turn, one is over before the other begins
     pub sends_apart : (turn place place' m : ℕ) (b : At turn place) (a : At turn place') → Sends (head b.term) m → Sends (head a.term) m → (place ≡ place' → ⊥)
         → ((e : ℕ) × EndsIn b e × ((c : ℕ) → InLife (wires p inputs registers) (life_of p m) e c → c < a.begin)) ⊎ ((e : ℕ) × EndsIn a e × ((c : ℕ) → InLife (wires p inputs registers) (life_of p m) e c → c < b.begin))
-    sends_apart turn place place' m b a k l ne = go (nat_lt place place') refl
+    sends_apart turn place place' m b a k l different = go (nat_lt place place') refl
       where
         over : (q r : ℕ) (b : At turn q) (a : At turn r) → Holds p thread.body (demand.Last q m (pos 1) (demand.begin_of r)) → (e : ℕ) × EndsIn b e × ((c : ℕ) → InLife (wires p inputs registers) (life_of p m) e c → c < a.begin)
         over q r b a f =
@@ -86,11 +86,11 @@ module _ (p : Process) (process : IsProcess p) (inputs : Inputs) (registers : �
             elim (meets _ _ _ _ (demand.sends place place' m (sends_here turn place m b k) (sends_here turn place' m a l) y)) [ inl g ↦ inl (over place place' b a g) | inr g ↦ inr (over place' place a b g) ]
         go false f =
             let y : place' ≤ place = grind (arith, nat_tests) in
-            let y' : place' < place = omega (arith, ne) in
+            let y' : place' < place = omega (arith, different) in
             elim (meets _ _ _ _ (demand.sends place' place m (sends_here turn place' m a l) (sends_here turn place m b k) y')) [ inl g ↦ inr (over place' place a b g) | inr g ↦ inl (over place place' b a g) ]
 
     receives_apart : (turn place place' m t : ℕ) (b : At turn place) (a : At turn place') → Receives (head b.term) m → Receives (head a.term) m → (place ≡ place' → ⊥) → EndsIn b t → EndsIn a t → b.begin ≤ t → a.begin ≤ t → ⊥
-    receives_apart turn place place' m t b a k l ne ended ended' u u' = go (nat_lt place place') refl
+    receives_apart turn place place' m t b a k l different ended ended' u u' = go (nat_lt place place') refl
       where
         over : (q r : ℕ) (b : At turn q) (a : At turn r) → EndsIn b t → a.begin ≤ t → Holds p thread.body (demand.Order (demand.end_of q) (pos 1) (demand.begin_of r)) → ⊥
         over q r b a ended v f =
@@ -103,7 +103,7 @@ module _ (p : Process) (process : IsProcess p) (inputs : Inputs) (registers : �
             elim (meets _ _ _ _ (demand.receives place place' m (receives_here turn place m b k) (receives_here turn place' m a l) y)) [ inl g ↦ over place place' b a ended u' g | inr g ↦ over place' place a b ended' u g ]
         go false f =
             let y : place' ≤ place = grind (arith, nat_tests) in
-            let y' : place' < place = omega (arith, ne) in
+            let y' : place' < place = omega (arith, different) in
             elim (meets _ _ _ _ (demand.receives place' place m (receives_here turn place' m a l) (receives_here turn place m b k) y')) [ inl g ↦ over place' place a b ended' u g | inr g ↦ over place place' b a ended u' g ]
 
     -- at most one act of a port ends in a cycle
@@ -116,19 +116,19 @@ module _ (p : Process) (process : IsProcess p) (inputs : Inputs) (registers : �
         from_a : (t < inputs.count) × (a.begin ≤ t)
         from_a = let z = ended_ready inputs registers a.scope a.begin m t ended'.0 (head a.term) l ended'.1 in (z.0, z.1)
 
-        dec : (a c : ℕ) → (a ≡ c) ⊎ (a ≡ c → ⊥)
-        dec a c = grind arith
+        same_or_not : (a c : ℕ) → (a ≡ c) ⊎ (a ≡ c → ⊥)
+        same_or_not a c = grind arith
 
         differ : (a' : At turn place') → (a'.begin ≡ a.begin) → OnPort (head a'.term) m → EndsIn a' t → (place ≡ place' → ⊥) → ⊥
-        differ a' e l' ended'' ne =
+        differ a' e l' ended'' different =
             elim (side_begun inputs registers p process m j thread is turn place b k) [
               | inl y ↦ elim (side_begun inputs registers p process m j thread is turn place' a' l') [
-                | inl z ↦ receives_apart turn place place' m t b a' y.1 z.1 ne ended ended'' from_b.1 (omega (arith, from_a.1))
+                | inl z ↦ receives_apart turn place place' m t b a' y.1 z.1 different ended ended'' from_b.1 (omega (arith, from_a.1))
                 | inr z ↦ let w : true ≡ false = sym y.0 ∙ z.0 in absurd cc
               ]
               | inr y ↦ elim (side_begun inputs registers p process m j thread is turn place' a' l') [
                 | inl z ↦ let w : true ≡ false = sym z.0 ∙ y.0 in absurd cc
-                | inr z ↦ elim (sends_apart turn place place' m b a' y.1 z.1 ne) [
+                | inr z ↦ elim (sends_apart turn place place' m b a' y.1 z.1 different) [
                   | inl w ↦ let v : Done w.0 w.1.0 ≡ Done t ended.0 = sym w.1.1 ∙ ended.1 in let v' : w.0 ≡ t = cc in let u = w.2 w.0 (own p process inputs registers m w.0) in omega (arith, from_a.1)
                   | inr w ↦ let v : Done w.0 w.1.0 ≡ Done t ended''.0 = sym w.1.1 ∙ ended''.1 in let v' : w.0 ≡ t = cc in let u = w.2 w.0 (own p process inputs registers m w.0) in omega (arith, from_b.1)
                 ]
@@ -140,7 +140,7 @@ module _ (p : Process) (process : IsProcess p) (inputs : Inputs) (registers : �
         go (past i z) = let y = before_later turn' place' t i turn place a b z (talks (head a.term) m l) ended' in absurd (omega (arith, from_b.1))
         go (same z) =
             let a' = in_turn turn turn' place' z a in
-            (z, elim (dec place place') [ inl e ↦ e | inr ne ↦ absurd (differ a'.0 a'.1 (a'.2 (λ c. OnPort c m) l) (a'.3 t ended') ne) ])
+            (z, elim (same_or_not place place') [ inl e ↦ e | inr different ↦ absurd (differ a'.0 a'.1 (a'.2 (λ c. OnPort c m) l) (a'.3 t ended') different) ])
 
     -- while the exchange of a send lives, no send of its port is offered
     pub quiet : (turn place turn' place' m t u : ℕ) (b : At turn place) (a : At turn' place') → Sends (head b.term) m → OnPort (head b.term) m → Sends (head a.term) m → OnPort (head a.term) m → EndsIn b t → t < u → InLife (wires p inputs registers) (life_of p m) t u
@@ -153,8 +153,8 @@ module _ (p : Process) (process : IsProcess p) (inputs : Inputs) (registers : �
         from_b : (t < inputs.count) × (b.begin ≤ t)
         from_b = let z = ended_ready inputs registers b.scope b.begin m t ended.0 (head b.term) k' ended.1 in (z.0, z.1)
 
-        dec : (a c : ℕ) → (a ≡ c) ⊎ (a ≡ c → ⊥)
-        dec a c = grind arith
+        same_or_not : (a c : ℕ) → (a ≡ c) ⊎ (a ≡ c → ⊥)
+        same_or_not a c = grind arith
 
         other : (e : ℕ) → EndsIn a e → u ≤ e
         other e f = pending.not_ended e f.0 f.1
@@ -173,40 +173,40 @@ module _ (p : Process) (process : IsProcess p) (inputs : Inputs) (registers : �
             let y = earlier p process inputs registers j thread is turn' i place' a o.0 (subst P z o.1) in
             let v = other y.0 y.1 in
             omega (arith, y.2, o.2, from_b.1)
-        go (same z) = elim (dec place place') [ inl e ↦ same_place e | inr ne ↦ apart ne ]
+        go (same z) = elim (same_or_not place place') [ inl e ↦ same_place e | inr different ↦ apart different ]
           where
             same_place : place ≡ place' → ⊥
             same_place e =
-                let y' : stage turn (End place') ≡ occ.At t = subst (λ q. stage turn (End q) ≡ occ.At t) e (at_end p process inputs registers j thread is turn place b t ended) in
-                let y : stage turn' (End place') ≡ occ.At t = stage_eq p process inputs registers j thread is turn' turn z (End place') t y' in
+                let y' : stage turn (End place') ≡ occurs.At t = subst (λ q. stage turn (End q) ≡ occurs.At t) e (at_end p process inputs registers j thread is turn place b t ended) in
+                let y : stage turn' (End place') ≡ occurs.At t = stage_eq p process inputs registers j thread is turn' turn z (End place') t y' in
                 let w = other t (end_found p process inputs registers j thread is turn' place' a t y) in omega arith
 
             apart : (place ≡ place' → ⊥) → ⊥
-            apart ne =
+            apart different =
                 let a' = in_turn turn turn' place' z a in
-                elim (sends_apart turn place place' m b a'.0 k (a'.2 (λ c. Sends c m) l) ne) [
+                elim (sends_apart turn place place' m b a'.0 k (a'.2 (λ c. Sends c m) l) different) [
                   | inl w ↦ let v : Done w.0 w.1.0 ≡ Done t ended.0 = sym w.1.1 ∙ ended.1 in let v' : w.0 ≡ t = cc in let n = w.2 u (rw v' life) in omega (arith, a'.1)
                   | inr w ↦
-                      let y : stage turn' (End place') ≡ occ.At w.0 = stage_eq p process inputs registers j thread is turn' turn z (End place') w.0 (at_end p process inputs registers j thread is turn place' a'.0 w.0 w.1) in
+                      let y : stage turn' (End place') ≡ occurs.At w.0 = stage_eq p process inputs registers j thread is turn' turn z (End place') w.0 (at_end p process inputs registers j thread is turn place' a'.0 w.0 w.1) in
                       let n = other w.0 (end_found p process inputs registers j thread is turn' place' a w.0 y) in
                       let o = w.2 w.0 (own p process inputs registers m w.0) in omega (arith, from_b.1)
                 ]
 
     sets_claims : SetsApart thread.body
-    sets_claims vs ws u v s s' r k l ne = go (nat_lt (site (head u)) (site (head v))) refl
+    sets_claims vs ws u v s s' r k l different = go (nat_lt (site (head u)) (site (head v))) refl
       where
-        su : SetAt thread.body (site (head u)) r
-        su = (vs, u, s, refl, k)
+        first_stands : SetAt thread.body (site (head u)) r
+        first_stands = (vs, u, s, refl, k)
 
-        sv : SetAt thread.body (site (head v)) r
-        sv = (ws, v, s', refl, l)
+        second_stands : SetAt thread.body (site (head v)) r
+        second_stands = (ws, v, s', refl, l)
 
         go : (d : Bool) → nat_lt (site (head u)) (site (head v)) ≡ d → Holds p thread.body (demand.Either (demand.Order (demand.end_of (site (head u))) (pos 0) (demand.begin_of (site (head v)))) (demand.Order (demand.end_of (site (head v))) (pos 0) (demand.begin_of (site (head u)))))
-        go true f = let y : site (head u) < site (head v) = grind (arith, nat_tests) in meets _ _ _ _ (demand.sets _ _ r su sv y)
+        go true f = let y : site (head u) < site (head v) = grind (arith, nat_tests) in meets _ _ _ _ (demand.sets _ _ r first_stands second_stands y)
         go false f =
             let y : site (head v) ≤ site (head u) = grind (arith, nat_tests) in
-            let y' : site (head v) < site (head u) = omega (arith, ne) in
-            elim (meets _ _ _ _ (demand.sets _ _ r sv su y')) [ inl g ↦ inr g | inr g ↦ inl g ]
+            let y' : site (head v) < site (head u) = omega (arith, different) in
+            elim (meets _ _ _ _ (demand.sets _ _ r second_stands first_stands y')) [ inl g ↦ inr g | inr g ↦ inl g ]
 
     -- at most one set of a register begins in a cycle
     pub one_set : (turn place turn' place' r : ℕ) (b : At turn place) (a : At turn' place') → Sets (head b.term) r → Sets (head a.term) r → b.begin ≡ a.begin → (turn ≡ turn') × (place ≡ place')
@@ -229,14 +229,14 @@ module _ (p : Process) (process : IsProcess p) (inputs : Inputs) (registers : �
     -- a send that is in use is the one of its port that began last
     pub began_last : (turn place turn' place' m t : ℕ) (b : At turn place) (a : At turn' place') → Sends (head b.term) m → Sends (head a.term) m → OnPort (head a.term) m → InUse p inputs registers b.scope b.begin (head b.term) t → a.begin ≤ t
         → (a.begin < b.begin) ⊎ ((turn ≡ turn') × (place ≡ place'))
-    began_last turn place turn' place' m t b a k l l' cyc begun = go (turns inputs (sees registers) thread.body numbered turn turn')
+    began_last turn place turn' place' m t b a k l l' in_cycle begun = go (turns inputs (sees registers) thread.body numbered turn turn')
       where
-        dec : (a c : ℕ) → (a ≡ c) ⊎ (a ≡ c → ⊥)
-        dec a c = grind arith
+        same_or_not : (a c : ℕ) → (a ≡ c) ⊎ (a ≡ c → ⊥)
+        same_or_not a c = grind arith
 
         -- what comes after the life comes after t
         after : (e d : ℕ) → EndsIn b e → ((c : ℕ) → InLife (wires p inputs registers) (life_of p m) e c → c < d) → t < d
-        after e d f g = elim (in_use_send b.scope b.begin t m (head b.term) k cyc e f.0 f.1) [ inl y ↦ let z = g e (own p process inputs registers m e) in omega arith | inr y ↦ g t y ]
+        after e d f g = elim (in_use_send b.scope b.begin t m (head b.term) k in_cycle e f.0 f.1) [ inl y ↦ let z = g e (own p process inputs registers m e) in omega arith | inr y ↦ g t y ]
 
         ended_since : (turn place : ℕ) (a : At turn place) (e : ℕ) → EndsIn a e → a.begin ≤ e
         ended_since turn place a e f = act_from inputs (sees registers) a.scope a.begin (head a.term) e (ap of_outcome f.1)
@@ -253,12 +253,12 @@ module _ (p : Process) (process : IsProcess p) (inputs : Inputs) (registers : �
             let y = earlier p process inputs registers j thread is turn' i place' a o.0 (subst P z o.1) in
             let v = y.3 (talks (head a.term) m l') in
             let w = ended_since turn' place' a y.0 y.1 in inl (omega (arith, o.2))
-        go (same z) = elim (dec place place') [ inl e ↦ inr (z, e) | inr ne ↦ apart ne ]
+        go (same z) = elim (same_or_not place place') [ inl e ↦ inr (z, e) | inr different ↦ apart different ]
           where
             apart : (place ≡ place' → ⊥) → (a.begin < b.begin) ⊎ ((turn ≡ turn') × (place ≡ place'))
-            apart ne =
+            apart different =
                 let a' = in_turn turn turn' place' z a in
-                elim (sends_apart turn place place' m b a'.0 k (a'.2 (λ c. Sends c m) l) ne) [
+                elim (sends_apart turn place place' m b a'.0 k (a'.2 (λ c. Sends c m) l) different) [
                   | inl w ↦ let v = after w.0 a'.0.begin w.1 w.2 in absurd (omega (arith, a'.1))
                   | inr w ↦ let v = w.2 w.0 (own p process inputs registers m w.0) in let y = ended_since turn place' a'.0 w.0 w.1 in inl (omega (arith, a'.1))
                 ]

@@ -25,7 +25,7 @@ use Rattle.core_term.specs.Wires.{LiesWithin, WithinAll, InLife}
 use Rattle.core_term.specs.Outputs.{wires}
 use Rattle.core_term.specs.Rules.{Holds, use_by, RestsOn, Demands, Meets}
 use Rattle.core_term.specs.Log.{Begun, EndsIn, InUse, IsMade}
-use Rattle.core_term.specs.Occurs as occ
+use Rattle.core_term.specs.Occurs as occurs
 use Rattle.core_term.specs.Rules as demand
 use Rattle.core_term.proofs.Order.{act_from}
 use Rattle.core_term.proofs.Sound.{Matches}
@@ -42,7 +42,7 @@ module _ (p : Process) (process : IsProcess p) (inputs : Inputs) (registers : �
   abbrev At : ℕ → ℕ → Type 0
   At turn place = Begun inputs registers thread.body turn place
 
-  abbrev stage : ℕ → Spot → occ.Occurrence
+  abbrev stage : ℕ → Spot → occurs.Occurrence
   stage turn = occurrence inputs (sees registers) (run_of inputs (sees registers) thread.body turn)
 
   module _ (meets : Meets p j thread.body) where
@@ -66,7 +66,7 @@ module _ (p : Process) (process : IsProcess p) (inputs : Inputs) (registers : �
 
     -- received values
     pub received : (turn place c m t : ℕ) (b : At turn place) → Used turn place c b (Wire m t) → InLife (wires p inputs registers) (life_of p m) t c
-    received turn place c m t b (e, uses, cyc, has) = (omega (arith, atom_by p process inputs registers j thread is turn place b e (Wire m t) has, (in_use_from p process inputs registers j thread is turn place c b cyc).0), go r.0 r.1 r.2)
+    received turn place c m t b (e, uses, in_cycle, has) = (omega (arith, atom_by p process inputs registers j thread is turn place b e (Wire m t) has, (in_use_from p process inputs registers j thread is turn place c b in_cycle).0), go r.0 r.1 r.2)
       where
         r : (a : Source) × RestsOn thread.body b.term a × Matches inputs (sees registers) (run_of inputs (sees registers) thread.body turn) a (Wire m t)
         r = rests p process inputs registers j thread is turn place b e uses (Wire m t) has
@@ -97,9 +97,9 @@ module _ (p : Process) (process : IsProcess p) (inputs : Inputs) (registers : �
                 short : (d : Bool) → nat_lt (t + n) (inputs.count + 1) ≡ d → c < t + n
                 short true f =
                     let l : t + n < inputs.count + 1 = grind (arith, nat_tests) in
-                    let w = use_law p process inputs registers j thread is turn 0 place (pos 1 -ℤ pos n) t c false (End q) b (meets _ _ _ _ (demand.wire_within b.term q m n s is_recv i)) k.0 within.0 (omega (arith, ints)) cyc in
+                    let w = use_law p process inputs registers j thread is turn 0 place (pos 1 -ℤ pos n) t c false (End q) b (meets _ _ _ _ (demand.wire_within b.term q m n s is_recv i)) k.0 within.0 (omega (arith, ints)) in_cycle in
                     omega (arith, ints)
-                short false f = let l : inputs.count + 1 ≤ t + n = grind (arith, nat_tests) in let y = (in_use_from p process inputs registers j thread is turn place c b cyc).1 in omega arith
+                short false f = let l : inputs.count + 1 ≤ t + n = grind (arith, nat_tests) in let y = (in_use_from p process inputs registers j thread is turn place c b in_cycle).1 in omega arith
             each (Until n) i = λ d l l' exchange.
                 let o = own_end p process inputs registers j thread is q m n d on_recv (process.same_endpoint m n i) exchange in
                 let act = begun_act inputs registers thread.body numbered (λ a. OnPort a n) o.0 o.1 o.2 o.3 in
@@ -107,10 +107,10 @@ module _ (p : Process) (process : IsProcess p) (inputs : Inputs) (registers : �
               where
                 none : (d : ℕ) → t ≤ d → d < c → (turn' w : ℕ) (a : At turn' w) → OnPort (head a.term) n → EndsIn a d → UntilClaim (head b.term) q w → Turns inputs (sees registers) thread.body numbered turn turn' → ⊥
                 none d l l' turn' w a on ended (inl f) z =
-                    let y = use_law p process inputs registers j thread is turn 0 place (pos 0) t c false (End q) b f k.0 within.0 (omega (arith, ints, within.0)) cyc in omega (arith, ints)
+                    let y = use_law p process inputs registers j thread is turn 0 place (pos 0) t c false (End q) b f k.0 within.0 (omega (arith, ints, within.0)) in_cycle in omega (arith, ints)
                 none d l l' turn' w a on ended (inr (f, g)) (next i z) =
                     let e = ended_ready inputs registers a.scope a.begin n d ended.0 (head a.term) on ended.1 in
-                    let y = use_law p process inputs registers j thread is turn i place (pos 0) d c true (End w) b g (occurs_next p process inputs registers j thread is turn i turn' z (End w) d (at_end p process inputs registers j thread is turn' w a d ended)) e.0 (omega (arith, ints, e.0)) cyc in omega (arith, ints)
+                    let y = use_law p process inputs registers j thread is turn i place (pos 0) d c true (End w) b g (occurs_next p process inputs registers j thread is turn i turn' z (End w) d (at_end p process inputs registers j thread is turn' w a d ended)) e.0 (omega (arith, ints, e.0)) in_cycle in omega (arith, ints)
                 none d l l' turn' w a on ended (inr (f, g)) (past i z) =
                     let s' = start p process inputs registers j thread is turn q recv in
                     let P : ℕ → Type 0 = λ z. begins inputs (sees registers) thread.body z ≡ Some s'.0 in
@@ -125,18 +125,18 @@ module _ (p : Process) (process : IsProcess p) (inputs : Inputs) (registers : �
                 none d l l' turn' w a on ended (inr (inr f, g)) (same z) =
                     let e = stage_eq p process inputs registers j thread is turn turn' (sym z) (End w) d (at_end p process inputs registers j thread is turn' w a d ended) in
                     let e' = ended_ready inputs registers a.scope a.begin n d ended.0 (head a.term) on ended.1 in
-                    let y = use_law p process inputs registers j thread is turn 0 place (pos 0) d c false (End w) b f e e'.0 (omega (arith, ints, e'.0)) cyc in omega (arith, ints)
+                    let y = use_law p process inputs registers j thread is turn 0 place (pos 0) d c false (End w) b f e e'.0 (omega (arith, ints, e'.0)) in_cycle in omega (arith, ints)
 
     -- the claim for the use that a makes of the register that was read at q, against the set w of it
     abbrev SetClaim : Act → ℕ → ℕ → Type 0
     SetClaim a q w = Holds p thread.body (use_by a (pos 0) (demand.begin_of q)) ⊎ ((Holds p thread.body (demand.Order (demand.end_of w) (pos 0) (demand.begin_of q)) ⊎ Holds p thread.body (use_by a (pos 0) (demand.begin_of w))) × Holds p thread.body (use_by a (pos 0) (demand.next_begin_of w)))
 
-    set_ends : (turn place r : ℕ) (b : At turn place) → Sets (head b.term) r → stage turn (End place) ≡ occ.At (b.begin + 1)
+    set_ends : (turn place r : ℕ) (b : At turn place) → Sets (head b.term) r → stage turn (End place) ≡ occurs.At (b.begin + 1)
     set_ends turn place r b k = ap (end_at inputs (sees registers)) b.runs ∙ set_end inputs (sees registers) thread.body numbered b.scope b.begin r (head b.term) k
 
     -- a register that was read, against the sets of this thread
     pub register_here : (turn place c r t : ℕ) (b : At turn place) → Used turn place c b (Register r t) → (turn' w : ℕ) (a : At turn' w) → Sets (head a.term) r → t ≤ a.begin → a.begin < c → ⊥
-    register_here turn place c r t b (e, uses, cyc, has) turn' w a sets l l' = go s.0 s.1 s.2
+    register_here turn place c r t b (e, uses, in_cycle, has) turn' w a sets l l' = go s.0 s.1 s.2
       where
         s : (a : Source) × RestsOn thread.body b.term a × Matches inputs (sees registers) (run_of inputs (sees registers) thread.body turn) a (Register r t)
         s = rests p process inputs registers j thread is turn place b e uses (Register r t) has
@@ -147,16 +147,16 @@ module _ (p : Process) (process : IsProcess p) (inputs : Inputs) (registers : �
         a_short : a.begin < inputs.count
         a_short = (start p process inputs registers j thread is turn' w a).3
 
-        none : (q : ℕ) → stage turn (Begin q) ≡ occ.At t → SetClaim (head b.term) q w → Turns inputs (sees registers) thread.body numbered turn turn' → ⊥
+        none : (q : ℕ) → stage turn (Begin q) ≡ occurs.At t → SetClaim (head b.term) q w → Turns inputs (sees registers) thread.body numbered turn turn' → ⊥
         none q k (inl f) z =
-            let y = use_law p process inputs registers j thread is turn 0 place (pos 0) t c false (Begin q) b f k t_short (omega (arith, ints, t_short)) cyc in omega (arith, ints)
+            let y = use_law p process inputs registers j thread is turn 0 place (pos 0) t c false (Begin q) b f k t_short (omega (arith, ints, t_short)) in_cycle in omega (arith, ints)
         none q k (inr (f, g)) (next i z) =
-            let y = use_law p process inputs registers j thread is turn i place (pos 0) a.begin c true (Begin w) b g (occurs_next p process inputs registers j thread is turn i turn' z (Begin w) a.begin (at_begin p process inputs registers j thread is turn' w a)) a_short (omega (arith, ints, a_short)) cyc in omega (arith, ints)
+            let y = use_law p process inputs registers j thread is turn i place (pos 0) a.begin c true (Begin w) b g (occurs_next p process inputs registers j thread is turn i turn' z (Begin w) a.begin (at_begin p process inputs registers j thread is turn' w a)) a_short (omega (arith, ints, a_short)) in_cycle in omega (arith, ints)
         none q k (inr (f, g)) (past i z) =
             let o = some_start inputs (sees registers) thread.body numbered (begins inputs (sees registers) thread.body turn) place b.scope b.begin b.term b.runs in
             let P : ℕ → Type 0 = λ z. begins inputs (sees registers) thread.body z ≡ Some o.0 in
             let y = earlier p process inputs registers j thread is turn' i w a o.0 (subst P z o.1) in
-            let y' : occ.At (a.begin + 1) ≡ occ.At y.0 = sym (set_ends turn' w r a sets) ∙ at_end p process inputs registers j thread is turn' w a y.0 y.1 in
+            let y' : occurs.At (a.begin + 1) ≡ occurs.At y.0 = sym (set_ends turn' w r a sets) ∙ at_end p process inputs registers j thread is turn' w a y.0 y.1 in
             let y'' : a.begin + 1 ≡ y.0 = cc in
             let v = begin_since inputs (sees registers) thread.body numbered (begins inputs (sees registers) thread.body turn) o.0 q t o.1 k in
             omega (arith, y.2)
@@ -165,7 +165,7 @@ module _ (p : Process) (process : IsProcess p) (inputs : Inputs) (registers : �
             let y = end_over p process inputs registers j thread is turn 0 w (pos 0) t (a.begin + 1) false (Begin q) y' f k (omega (arith, ints, t_short)) in omega (arith, ints)
         none q k (inr (inr f, g)) (same z) =
             let y' = stage_eq p process inputs registers j thread is turn turn' (sym z) (Begin w) a.begin (at_begin p process inputs registers j thread is turn' w a) in
-            let y = use_law p process inputs registers j thread is turn 0 place (pos 0) a.begin c false (Begin w) b f y' a_short (omega (arith, ints, a_short)) cyc in omega (arith, ints)
+            let y = use_law p process inputs registers j thread is turn 0 place (pos 0) a.begin c false (Begin w) b f y' a_short (omega (arith, ints, a_short)) in_cycle in omega (arith, ints)
 
         go : (a : Source) → RestsOn thread.body b.term a → Matches inputs (sees registers) (run_of inputs (sees registers) thread.body turn) a (Register r t) → ⊥
         go (WireOf q) i k = elim k [ ]
@@ -176,7 +176,7 @@ module _ (p : Process) (process : IsProcess p) (inputs : Inputs) (registers : �
 
     -- a register that another thread sets is used in the cycle of reading alone
     pub register_elsewhere : (turn place c r t : ℕ) (b : At turn place) → Used turn place c b (Register r t) → (i w : ℕ) (other : Thread) → IsThread p.threads i other → (i ≡ j → ⊥) → SetAt other.body w r → c ≤ t
-    register_elsewhere turn place c r t b (e, uses, cyc, has) i w other is' ne sets = go s.0 s.1 s.2
+    register_elsewhere turn place c r t b (e, uses, in_cycle, has) i w other is' different sets = go s.0 s.1 s.2
       where
         s : (a : Source) × RestsOn thread.body b.term a × Matches inputs (sees registers) (run_of inputs (sees registers) thread.body turn) a (Register r t)
         s = rests p process inputs registers j thread is turn place b e uses (Register r t) has
@@ -189,12 +189,12 @@ module _ (p : Process) (process : IsProcess p) (inputs : Inputs) (registers : �
         go (ChoiceOf q) i' k = elim k [ ]
         go (RegOf q r') i' k =
             let i'' : RestsOn thread.body b.term (RegOf q r) = rw k.0 i' in
-            let y = use_law p process inputs registers j thread is turn 0 place (pos 0) t c false (Begin q) b (meets _ _ _ _ (demand.set_elsewhere b.term q r i w other i'' is' ne sets)) k.1 t_short (omega (arith, ints, t_short)) cyc in
+            let y = use_law p process inputs registers j thread is turn 0 place (pos 0) t c false (Begin q) b (meets _ _ _ _ (demand.set_elsewhere b.term q r i w other i'' is' different sets)) k.1 t_short (omega (arith, ints, t_short)) in_cycle in
             omega (arith, ints)
 
     -- sides
     pub choice : (turn place c q t : ℕ) (b : At turn place) → Used turn place c b (Choice q t) → (turn' : ℕ) (a : At turn' q) → t < a.begin → a.begin ≤ c → ⊥
-    choice turn place c q t b (e, uses, cyc, has) turn' a l l' = go s.0 s.1 s.2
+    choice turn place c q t b (e, uses, in_cycle, has) turn' a l l' = go s.0 s.1 s.2
       where
         s : (a : Source) × RestsOn thread.body b.term a × Matches inputs (sees registers) (run_of inputs (sees registers) thread.body turn) a (Choice q t)
         s = rests p process inputs registers j thread is turn place b e uses (Choice q t) has
@@ -202,9 +202,9 @@ module _ (p : Process) (process : IsProcess p) (inputs : Inputs) (registers : �
         a_short : a.begin < inputs.count
         a_short = (start p process inputs registers j thread is turn' q a).3
 
-        none : stage turn (Begin q) ≡ occ.At t → Holds p thread.body (use_by (head b.term) (pos 1) (demand.next_begin_of q)) → Turns inputs (sees registers) thread.body numbered turn turn' → ⊥
+        none : stage turn (Begin q) ≡ occurs.At t → Holds p thread.body (use_by (head b.term) (pos 1) (demand.next_begin_of q)) → Turns inputs (sees registers) thread.body numbered turn turn' → ⊥
         none k f (next i z) =
-            let y = use_law p process inputs registers j thread is turn i place (pos 1) a.begin c true (Begin q) b f (occurs_next p process inputs registers j thread is turn i turn' z (Begin q) a.begin (at_begin p process inputs registers j thread is turn' q a)) a_short (omega (arith, ints, a_short)) cyc in omega (arith, ints)
+            let y = use_law p process inputs registers j thread is turn i place (pos 1) a.begin c true (Begin q) b f (occurs_next p process inputs registers j thread is turn i turn' z (Begin q) a.begin (at_begin p process inputs registers j thread is turn' q a)) a_short (omega (arith, ints, a_short)) in_cycle in omega (arith, ints)
         none k f (past i z) =
             let o = some_start inputs (sees registers) thread.body numbered (begins inputs (sees registers) thread.body turn) place b.scope b.begin b.term b.runs in
             let P : ℕ → Type 0 = λ z. begins inputs (sees registers) thread.body z ≡ Some o.0 in
@@ -213,7 +213,7 @@ module _ (p : Process) (process : IsProcess p) (inputs : Inputs) (registers : �
             let v = begin_since inputs (sees registers) thread.body numbered (begins inputs (sees registers) thread.body turn) o.0 q t o.1 k in
             omega (arith, y.2)
         none k f (same z) =
-            let y' : occ.At t ≡ occ.At a.begin = sym k ∙ stage_eq p process inputs registers j thread is turn turn' (sym z) (Begin q) a.begin (at_begin p process inputs registers j thread is turn' q a) in
+            let y' : occurs.At t ≡ occurs.At a.begin = sym k ∙ stage_eq p process inputs registers j thread is turn turn' (sym z) (Begin q) a.begin (at_begin p process inputs registers j thread is turn' q a) in
             let y'' : t ≡ a.begin = cc in omega arith
 
         go : (a : Source) → RestsOn thread.body b.term a → Matches inputs (sees registers) (run_of inputs (sees registers) thread.body turn) a (Choice q t) → ⊥
@@ -221,5 +221,5 @@ module _ (p : Process) (process : IsProcess p) (inputs : Inputs) (registers : �
         go (RegOf q' r) i k = elim k [ ]
         go (ChoiceOf q') i k =
             let i' : RestsOn thread.body b.term (ChoiceOf q) = rw k.0 i in
-            let k' : stage turn (Begin q) ≡ occ.At t = rw k.0 k.1 in
+            let k' : stage turn (Begin q) ≡ occurs.At t = rw k.0 k.1 in
             none k' (meets _ _ _ _ (demand.choice b.term q i')) (turns inputs (sees registers) thread.body numbered turn turn')

@@ -21,7 +21,7 @@ cycle_of (Choice p t) = t
 
 -- each atom is of cycle e or earlier
 abbrev pub UpTo : ℕ → List Atom → Type 0
-UpTo e cs = (a : Atom) → Has cs a → cycle_of a ≤ e
+UpTo e these = (a : Atom) → Has these a → cycle_of a ≤ e
 
 abbrev pub TimelyOutcome : Outcome → Type 0
 TimelyOutcome o = (e : ℕ) (v : Value) → o ≡ Done e v → UpTo e v.atoms
@@ -32,16 +32,16 @@ Timely scope = (y : ℕ) → TimelyOutcome (scope y)
 none_up : (e : ℕ) → UpTo e []
 none_up e a k = elim k [ ]
 
-append_up : (e : ℕ) (cs ds : List Atom) → UpTo e cs → UpTo e ds → UpTo e (cs ++ ds)
-append_up e cs ds k l a m = elim (has_either cs ds a m) [ inl n ↦ k a n | inr n ↦ l a n ]
+append_up : (e : ℕ) (these those : List Atom) → UpTo e these → UpTo e those → UpTo e (these ++ those)
+append_up e these those k l a m = elim (has_either these those a m) [ inl n ↦ k a n | inr n ↦ l a n ]
 
 one_up : (e : ℕ) (b : Atom) → cycle_of b ≤ e → UpTo e (b ∷ [])
 one_up e b l a (inl k) = rw k l
 one_up e b l a (inr k) = elim k [ ]
 
-more_up : (e : ℕ) (b : Atom) (cs : List Atom) → cycle_of b ≤ e → UpTo e cs → UpTo e (b ∷ cs)
-more_up e b cs l m a (inl k) = rw k l
-more_up e b cs l m a (inr k) = m a k
+more_up : (e : ℕ) (b : Atom) (these : List Atom) → cycle_of b ≤ e → UpTo e these → UpTo e (b ∷ these)
+more_up e b these l m a (inl k) = rw k l
+more_up e b these l m a (inr k) = m a k
 
 nothing_up : (e : ℕ) (v : Value) → nothing ≡ v → UpTo e v.atoms
 nothing_up e v k = let P : Value → Type 0 = λ w. UpTo e w.atoms in subst P k (none_up e)

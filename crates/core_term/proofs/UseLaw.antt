@@ -28,7 +28,7 @@ use Rattle.core_term.specs.Lives.{HasEnding, LastPrecedes}
 use Rattle.core_term.specs.Rules.{Holds, use_by}
 use Rattle.core_term.specs.Log.{Begun, EndsIn, InUse}
 use Rattle.order_rules.proofs.LastLaw as last
-use Rattle.core_term.specs.Occurs as occ
+use Rattle.core_term.specs.Occurs as occurs
 use Rattle.core_term.specs.Rules as demand
 use Rattle.core_term.proofs.Idle.{idle_not, later as idle_later, gone as idle_gone}
 use Rattle.core_term.proofs.Live.{not_gone}
@@ -71,20 +71,20 @@ module _ (p : Process) (process : IsProcess p) (inputs : Inputs) (registers : �
     abbrev pub Runs_at : ℕ → ℕ → Type 0
     Runs_at turn place = Begun inputs registers thread.body turn place
 
-    pub at_begin : (turn place : ℕ) (b : Runs_at turn place) → occurrence inputs (sees registers) (run_of inputs (sees registers) body turn) (Begin place) ≡ occ.At b.begin
+    pub at_begin : (turn place : ℕ) (b : Runs_at turn place) → occurrence inputs (sees registers) (run_of inputs (sees registers) body turn) (Begin place) ≡ occurs.At b.begin
     at_begin turn place b = ap begin_at b.runs
 
-    pub at_end : (turn place : ℕ) (b : Runs_at turn place) (t : ℕ) → EndsIn b t → occurrence inputs (sees registers) (run_of inputs (sees registers) body turn) (End place) ≡ occ.At t
+    pub at_end : (turn place : ℕ) (b : Runs_at turn place) (t : ℕ) → EndsIn b t → occurrence inputs (sees registers) (run_of inputs (sees registers) body turn) (End place) ≡ occurs.At t
     at_end turn place b t (v, e) = ap (end_at inputs (sees registers)) b.runs ∙ ap of_outcome e
 
-    pub end_found : (turn place : ℕ) (b : Runs_at turn place) (t : ℕ) → occurrence inputs (sees registers) (run_of inputs (sees registers) body turn) (End place) ≡ occ.At t → EndsIn b t
+    pub end_found : (turn place : ℕ) (b : Runs_at turn place) (t : ℕ) → occurrence inputs (sees registers) (run_of inputs (sees registers) body turn) (End place) ≡ occurs.At t → EndsIn b t
     end_found turn place b t e = done_from inputs (sees registers) body numbered _ t (sym (ap (end_at inputs (sees registers)) b.runs) ∙ e)
 
     pub end_not_gone : (turn place : ℕ) (b : Runs_at turn place) → occurrence inputs (sees registers) (run_of inputs (sees registers) body turn) (End place) ≡ Gone → ⊥
     end_not_gone turn place b e = not_gone inputs (sees registers) (run_of inputs (sees registers) body turn) _ (sym (ap (end_at inputs (sees registers)) b.runs) ∙ e)
 
     -- an act that ends at t has begun
-    pub act_ended : (turn place t : ℕ) → occurrence inputs (sees registers) (run_of inputs (sees registers) body turn) (End place) ≡ occ.At t → (b : Runs_at turn place) × EndsIn b t
+    pub act_ended : (turn place t : ℕ) → occurrence inputs (sees registers) (run_of inputs (sees registers) body turn) (End place) ≡ occurs.At t → (b : Runs_at turn place) × EndsIn b t
     act_ended turn place t e = go (run_of inputs (sees registers) body turn place) refl
       where
         go : (w : Fate) → run_of inputs (sees registers) body turn place ≡ w → (b : Runs_at turn place) × EndsIn b t
@@ -93,7 +93,7 @@ module _ (p : Process) (process : IsProcess p) (inputs : Inputs) (registers : �
         go (Runs scope s u) f = let b : Runs_at turn place = record { scope = scope; begin = s; term = u; runs = f } in (b, end_found turn place b t e)
 
     -- so has one of the text, of which is known what it is
-    pub text_begun : (P : Act → Type 0) (turn place t : ℕ) → HasAct body place P → occurrence inputs (sees registers) (run_of inputs (sees registers) body turn) (End place) ≡ occ.At t → (b : Runs_at turn place) × P (head b.term) × EndsIn b t
+    pub text_begun : (P : Act → Type 0) (turn place t : ℕ) → HasAct body place P → occurrence inputs (sees registers) (run_of inputs (sees registers) body turn) (End place) ≡ occurs.At t → (b : Runs_at turn place) × P (head b.term) × EndsIn b t
     text_begun P turn place t a e =
         let f = act_ended turn place t e in
         let z = begun_stands inputs registers body numbered turn place f.0 in
@@ -115,7 +115,7 @@ module _ (p : Process) (process : IsProcess p) (inputs : Inputs) (registers : �
     unfolding turn_of
     over_at m i k b e s t o l c n = go (nat_lt t c) refl
       where
-        at_turn : (late : Bool) → Occurs inputs (sees registers) body numbered i k (point late (End e.1)) t → occurrence inputs (sees registers) (run_of inputs (sees registers) body (turn_of i k late)) (End e.1) ≡ occ.At t
+        at_turn : (late : Bool) → Occurs inputs (sees registers) body numbered i k (point late (End e.1)) t → occurrence inputs (sees registers) (run_of inputs (sees registers) body (turn_of i k late)) (End e.1) ≡ occurs.At t
         at_turn false q = q
         at_turn true q = q
 
@@ -129,7 +129,7 @@ module _ (p : Process) (process : IsProcess p) (inputs : Inputs) (registers : �
 
     -- the last law of a send
     pub last_law : (m i k q : ℕ) (d : ℤ) (t : ℕ) (b : Point) → LastPrecedes body (life_of p m) q d b → Occurs inputs (sees registers) body numbered i k b t → t < inputs.count → pos t <ℤ (pos inputs.count +ℤ d)
-        → (occurrence inputs (sees registers) (run_of inputs (sees registers) body i) (End q) ≡ Gone) ⊎ ((e l : ℕ) × (occurrence inputs (sees registers) (run_of inputs (sees registers) body i) (End q) ≡ occ.At e) × Over m e l × ((pos l +ℤ d) ≤ℤ pos t))
+        → (occurrence inputs (sees registers) (run_of inputs (sees registers) body i) (End q) ≡ Gone) ⊎ ((e l : ℕ) × (occurrence inputs (sees registers) (run_of inputs (sees registers) body i) (End q) ≡ occurs.At e) × Over m e l × ((pos l +ℤ d) ≤ℤ pos t))
     last_law m i k q d t b r o l less =
         last.last_law Point (HasForm body) (Exclusive body) inputs.count (Left inputs (sees registers) body numbered i k) (Occurs inputs (sees registers) body numbered i k) (IsLost inputs (sees registers) body numbered i k) (timed inputs (sees registers) body numbered i k)
         (HasEnding body (life_of p m)) (Over m) (over_within m) (over_at m i k) (point false (End q)) (inl refl) r t o l less
@@ -147,16 +147,16 @@ module _ (p : Process) (process : IsProcess p) (inputs : Inputs) (registers : �
     pub begin_over : (i k q : ℕ) (d : ℤ) (t : ℕ) (late : Bool) (spot : Spot) (b : Runs_at i q) → Holds p body (demand.Order (demand.begin_of q) d (point late spot)) → Occurs inputs (sees registers) body numbered i k (point late spot) t → pos t <ℤ (pos inputs.count +ℤ d) → (pos b.begin +ℤ d) ≤ℤ pos t
     begin_over i k q d t late spot b r o less =
         elim (order_law inputs (sees registers) body numbered i k (demand.begin_of q) (point late spot) d r (inl refl) t o less) [
-          | inl z ↦ let y : occ.At b.begin ≡ Gone = sym (at_begin i q b) ∙ z in absurd (idle_not idle_gone (sym y))
-          | inr z ↦ let y : occ.At b.begin ≡ occ.At z.0 = sym (at_begin i q b) ∙ z.2 in let w : b.begin ≡ z.0 = cc in omega (arith, ints, z.1)
+          | inl z ↦ let y : occurs.At b.begin ≡ Gone = sym (at_begin i q b) ∙ z in absurd (idle_not idle_gone (sym y))
+          | inr z ↦ let y : occurs.At b.begin ≡ occurs.At z.0 = sym (at_begin i q b) ∙ z.2 in let w : b.begin ≡ z.0 = cc in omega (arith, ints, z.1)
         ]
 
     -- an end of turn i
-    pub end_over : (i k q : ℕ) (d : ℤ) (t e : ℕ) (late : Bool) (spot : Spot) → occurrence inputs (sees registers) (run_of inputs (sees registers) body i) (End q) ≡ occ.At e → Holds p body (demand.Order (demand.end_of q) d (point late spot)) → Occurs inputs (sees registers) body numbered i k (point late spot) t → pos t <ℤ (pos inputs.count +ℤ d) → (pos e +ℤ d) ≤ℤ pos t
+    pub end_over : (i k q : ℕ) (d : ℤ) (t e : ℕ) (late : Bool) (spot : Spot) → occurrence inputs (sees registers) (run_of inputs (sees registers) body i) (End q) ≡ occurs.At e → Holds p body (demand.Order (demand.end_of q) d (point late spot)) → Occurs inputs (sees registers) body numbered i k (point late spot) t → pos t <ℤ (pos inputs.count +ℤ d) → (pos e +ℤ d) ≤ℤ pos t
     end_over i k q d t e late spot f r o less =
         elim (order_law inputs (sees registers) body numbered i k (demand.end_of q) (point late spot) d r (inl refl) t o less) [
-          | inl z ↦ let y : occ.At e ≡ Gone = sym f ∙ z in absurd (idle_not idle_gone (sym y))
-          | inr z ↦ let y : occ.At e ≡ occ.At z.0 = sym f ∙ z.2 in let w : e ≡ z.0 = cc in omega (arith, ints, z.1)
+          | inl z ↦ let y : occurs.At e ≡ Gone = sym f ∙ z in absurd (idle_not idle_gone (sym y))
+          | inr z ↦ let y : occurs.At e ≡ occurs.At z.0 = sym f ∙ z.2 in let w : e ≡ z.0 = cc in omega (arith, ints, z.1)
         ]
 
     at_once : (i k q : ℕ) (d : ℤ) (t c : ℕ) (late : Bool) (spot : Spot) (b : Runs_at i q) (a : Act) → site a ≡ q → Holds p body (demand.Order (demand.begin_of (site a)) d (point late spot)) → Occurs inputs (sees registers) body numbered i k (point late spot) t → pos t <ℤ (pos inputs.count +ℤ d) → c ≡ b.begin → (pos c +ℤ d) ≤ℤ pos t

@@ -2,6 +2,9 @@
 #![tactic(auto)]
 
 mod accepted;
+pub mod accepted_example;
+#[cfg(test)]
+mod accepted_tests;
 pub mod agreement;
 pub mod example;
 pub mod laws;
