@@ -1,0 +1,5 @@
+pub mod Steps
+pub mod Scopes
+pub mod Atoms
+pub mod Fates
+pub mod Sums

@@ -1,0 +1,4 @@
+pub mod Wires
+pub mod Seen
+pub mod Outcomes
+pub mod View
