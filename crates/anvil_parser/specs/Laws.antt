@@ -1,0 +1,15 @@
+-- The laws over the grammar that functions of the crate carry as contracts.
+use Rattle.std.specs.Prelude.{◌≡◌, List}
+use Rattle.anvil_lexer.specs.declared.token.Token.{Token}
+use Rattle.anvil_lexer.specs.TokenText.{ArePlacesRising}
+use Rattle.anvil_tree.specs.Tree.{File}
+use Rattle.anvil_parser.specs.Grammar.{IsFile}
+use Rattle.anvil_parser.specs.Order.{places_of_file, NeverFall}
+
+-- a list of tokens is one file at most
+abbrev pub EachHasOneTree : Type 0
+EachHasOneTree = (tokens : List Token) (one other : File) → IsFile tokens one → IsFile tokens other → one ≡ other
+
+-- the places of the tree never fall where those of the tokens rise
+abbrev pub TreesAreInOrder : Type 0
+TreesAreInOrder = (tokens : List Token) (file : File) → ArePlacesRising tokens → IsFile tokens file → NeverFall (places_of_file file)
