@@ -15,7 +15,11 @@ use Rattle.anvil_parser.specs.Grammar.{IsUnary, grouped, variable, alone, begun,
 use Rattle.anvil_parser.specs.Read.{stuck}
 use Rattle.anvil_parser.specs.ReadFile.{read_file}
 use Rattle.anvil_parser.specs.Order.{places_of_file}
-use Rattle.anvil_parser.specs.Limits.{in_file, open_brackets}
+use Rattle.anvil_parser.specs.Limits.{begun_in, open_brackets}
+use Rattle.anvil_parser.specs.Begun.{Begin}
+use Rattle.anvil_parser.specs.Position as position
+use Rattle.anvil_parser.specs.Step.{walk, stands, unexpected_at}
+use Rattle.anvil_parser.specs.declared.error.Counted.{Counted}
 use Rattle.anvil_parser.specs.declared.error.Counted.TheVariants as counted
 use Rattle.anvil_parser.proofs.FileSound.{file_said}
 
@@ -130,18 +134,32 @@ acts_are = process_next (of_parts refl refl refl without refl refl ended
     (more refl refl (beside (block refl (single (pure (as_expr (grouped refl (as_expr (variable refl)) refl)))) refl) refl (single (cycle refl refl))) refl ended) refl)
     (ended refl)
 
--- acts are counted by their first tokens, each before the acts inside it; the tree's places are those of the parts
-acts_begin : in_file counted.Act acts_are ≡ (18 ∷ 20 ∷ 28 ∷ []) ∷ []
-acts_begin = refl
+abbrev begin : Counted → ℕ → Begin
+begin kind place = record { kind = kind; at = place }
 
-expressions_have : in_file counted.Expr acts_are ≡ (21 ∷ []) ∷ []
-expressions_have = refl
+-- the things in the order of the text: acts by their first tokens, each before the acts inside it; the tree's places are those of
+-- the parts
+abbrev things : List Begin
+things =
+    begin counted.Process 0 ∷ begin counted.Thread 11 ∷ begin counted.Act 18 ∷ begin counted.Act 20 ∷ begin counted.Expr 21 ∷ begin counted.Act 28 ∷ []
 
-threads_begin : in_file counted.Thread acts_are ≡ (11 ∷ []) ∷ []
-threads_begin = refl
+things_begin : begun_in acts_are ≡ things
+things_begin = refl
 
-processes_begin : in_file counted.Process acts_are ≡ (0 ∷ []) ∷ []
-processes_begin = refl
+-- the reading token by token comes to the same
+acts_walked : walk position.start acts ≡ record { begun = things; stop = stands (position.ended (running (tree.beside None (tree.block 18 (tree.single (tree.pure 21 (tree.variable 21 (codes "a"))))) (tree.single (tree.cycle 28 2 34))))) }
+acts_walked = refl
+
+compared_walked : (walk position.start compared_twice).stop ≡ unexpected_at 25
+compared_walked = refl
+
+differences_walked : (walk position.start differences).stop ≡ stands (position.ended (running (tree.single (tree.pure 26 (tree.binary 26 operator.Sub (tree.binary 22 operator.Sub (tree.variable 19 (codes "a")) (tree.variable 24 (codes "b")))
+    (tree.binary 30 operator.Mul (tree.variable 28 (codes "c")) (tree.inverse 32 (tree.variable 33 (codes "d")))))))))
+differences_walked = refl
+
+chained_walked : (walk position.start chained).stop ≡ stands (position.ended
+    (running (tree.beside (Some (codes "x")) (tree.pure 26 (tree.variable 26 (codes "a"))) (tree.follow None (tree.pure 30 (tree.unit 30)) (tree.single (tree.pure 36 (tree.variable 36 (codes "x"))))))))
+chained_walked = refl
 
 acts_places : places_of_file (running (tree.beside None (tree.block 18 (tree.single (tree.pure 21 (tree.variable 21 (codes "a"))))) (tree.single (tree.cycle 28 2 34)))) ≡ 5 ∷ 18 ∷ 21 ∷ 28 ∷ []
 acts_places = refl

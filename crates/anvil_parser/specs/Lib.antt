@@ -2,6 +2,7 @@
 pub mod Words
 pub mod Grammar
 pub mod Order
+pub mod Begun
 pub mod Limits
 pub mod Refusal
 pub mod Laws
@@ -10,3 +11,6 @@ pub mod Read
 pub mod ReadExpr
 pub mod ReadTerm
 pub mod ReadFile
+-- The reading token by token.
+pub mod Position
+pub mod Step

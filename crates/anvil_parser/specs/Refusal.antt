@@ -6,7 +6,8 @@ use Rattle.anvil_parser.specs.declared.error.Counted.{Counted}
 use Rattle.anvil_parser.specs.declared.error.ParseErr.{ParseErr}
 use Rattle.anvil_parser.specs.declared.error.ParseErr.TheVariants.{Unexpected, TooDeep, TooMany, NoMemory}
 use Rattle.anvil_parser.specs.Grammar.{IsFile}
-use Rattle.anvil_parser.specs.Limits.{most_open, open_brackets, open_after, IsOnePast, AreFew}
+use Rattle.anvil_parser.specs.Begun.{HasOnePast}
+use Rattle.anvil_parser.specs.Limits.{most_open, open_brackets, open_after, begun_in, AreFew}
 
 -- some file begins with the tokens
 abbrev pub BeginsFile : List Token → Type 0
@@ -44,7 +45,7 @@ pub record IsTooMany (tokens : List Token) (kind : Counted) (place : ℕ) : Type
   pub behind : List Token
   pub joined : tokens ≡ front ++ behind
   pub goes_on : BeginsFile front
-  pub each : (more : List Token) (file : File) (is : IsFile (front ++ more) file) → IsOnePast kind is place
+  pub each : (more : List Token) (file : File) (is : IsFile (front ++ more) file) → HasOnePast kind place (begun_in is)
 
 abbrev pub IsRefusal : List Token → ParseErr → Type 0
 IsRefusal tokens (Unexpected place) = IsUnexpected tokens place
@@ -67,6 +68,10 @@ rank_of NoMemory = 3
 
 abbrev pub ComesFirst : ParseErr → ParseErr → Type 0
 ComesFirst fault other = (place_of fault < place_of other) ⊎ ((place_of fault ≡ place_of other) × (rank_of fault ≤ rank_of other))
+
+-- two refusals are of one code, at one place
+abbrev pub IsSameRefusal : ParseErr → ParseErr → Type 0
+IsSameRefusal found fault = (place_of found ≡ place_of fault) × (rank_of found ≡ rank_of fault)
 
 -- the tokens are refused so
 pub record IsFirstRefusal (tokens : List Token) (fault : ParseErr) : Type 0 where
