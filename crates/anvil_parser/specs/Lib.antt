@@ -14,3 +14,4 @@ pub mod ReadFile
 -- The reading token by token.
 pub mod Position
 pub mod Step
+pub mod Limited
