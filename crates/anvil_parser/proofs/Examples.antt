@@ -12,8 +12,6 @@ use Rattle.anvil_tree.specs.declared.file.LifeText.TheVariants.{Cycles, Until}
 use Rattle.anvil_tree.specs.Tree as tree
 use Rattle.anvil_tree.specs.Tree.{Expr, Term, File}
 use Rattle.anvil_parser.specs.Grammar.{IsUnary, grouped, variable, alone, begun, ended, IsExpr, plain, single, beside, cycle, block, pure, more, without, of_parts, IsFile, process_next}
-use Rattle.anvil_parser.specs.Read.{stuck}
-use Rattle.anvil_parser.specs.ReadFile.{read_file}
 use Rattle.anvil_parser.specs.Order.{places_of_file}
 use Rattle.anvil_parser.specs.Limits.{begun_in, open_brackets}
 use Rattle.anvil_parser.specs.Begun.{Begin}
@@ -21,7 +19,7 @@ use Rattle.anvil_parser.specs.Position as position
 use Rattle.anvil_parser.specs.Step.{walk, stands, unexpected_at}
 use Rattle.anvil_parser.specs.declared.error.Counted.{Counted}
 use Rattle.anvil_parser.specs.declared.error.Counted.TheVariants as counted
-use Rattle.anvil_parser.proofs.FileSound.{file_said}
+use Rattle.anvil_parser.proofs.FileKept.{file_sound}
 
 abbrev token : TokenKind → ℕ → ℕ → Token
 token kind place length = record { kind = kind; at = place; len = length }
@@ -49,7 +47,7 @@ counter_tree : IsFile counter
       registers = record { name = codes "a"; at = 15; width = 8; width_at = 25; reset = None } ∷ [];
       threads = tree.follow None (tree.set 36 (codes "a") 40 (tree.binary 48 operator.Add (tree.shown 45 (codes "a")) (tree.literal 50 8 1))) (tree.single (tree.cycle 58 2 64)) ∷ [];
     }) ∷ [])
-counter_tree = file_said 40 counter _ refl
+counter_tree = file_sound counter _ _ refl
 
 -- proc c() { loop { (a) - b - c * ~d } }
 abbrev differences : List Token
@@ -64,7 +62,7 @@ differences =
 differences_tree : IsFile differences
     (running (tree.single (tree.pure 26 (tree.binary 26 operator.Sub (tree.binary 22 operator.Sub (tree.variable 19 (codes "a")) (tree.variable 24 (codes "b")))
     (tree.binary 30 operator.Mul (tree.variable 28 (codes "c")) (tree.inverse 32 (tree.variable 33 (codes "d"))))))))
-differences_tree = file_said 40 differences _ refl
+differences_tree = file_sound differences _ _ refl
 
 -- proc c() { loop { let x = a ; () >> x } }
 abbrev chained : List Token
@@ -78,7 +76,7 @@ chained =
 -- chains group to the right
 chained_tree : IsFile chained
     (running (tree.beside (Some (codes "x")) (tree.pure 26 (tree.variable 26 (codes "a"))) (tree.follow None (tree.pure 30 (tree.unit 30)) (tree.single (tree.pure 36 (tree.variable 36 (codes "x")))))))
-chained_tree = file_said 40 chained _ refl
+chained_tree = file_sound chained _ _ refl
 
 -- chan d { left m : (logic[8]@n), right n : (logic[1]@#3), }
 abbrev messages : List Token
@@ -101,7 +99,7 @@ messages_tree : IsFile messages
           record { toward = side.Left; name = codes "m"; at = 14; width = 8; width_at = 25; life = Until (codes "n"); life_at = 28 } ∷
           record { toward = side.Right; name = codes "n"; at = 38; width = 1; width_at = 49; life = Cycles 3; life_at = 53 } ∷ [];
     }) ∷ [])
-messages_tree = file_said 40 messages _ refl
+messages_tree = file_sound messages _ _ refl
 
 -- proc c() { loop { a == b == c } }
 abbrev compared_twice : List Token
@@ -110,11 +108,6 @@ compared_twice =
     token (Mark mark.OpenBrace) 9 1 ∷ token (Key key.Loop) 11 4 ∷ token (Mark mark.OpenBrace) 16 1 ∷ token (Word (codes "a")) 18 1 ∷
     token (Mark mark.EqEq) 20 2 ∷ token (Word (codes "b")) 23 1 ∷ token (Mark mark.EqEq) 25 2 ∷ token (Word (codes "c")) 28 1 ∷
     token (Mark mark.CloseBrace) 30 1 ∷ token (Mark mark.CloseBrace) 32 1 ∷ token End 33 0 ∷ []
-
--- comparisons don't chain: the second one is unexpected
-compared_stops : read_file 40 compared_twice ≡ stuck (token (Mark mark.EqEq) 25 2 ∷ token (Word (codes "c")) 28 1 ∷
-    token (Mark mark.CloseBrace) 30 1 ∷ token (Mark mark.CloseBrace) 32 1 ∷ token End 33 0 ∷ [])
-compared_stops = refl
 
 -- proc c() { loop { { (a) } ; cycle 2 } }
 abbrev acts : List Token
@@ -150,6 +143,7 @@ things_begin = refl
 acts_walked : walk position.start acts ≡ record { begun = things; stop = stands (position.ended (running (tree.beside None (tree.block 18 (tree.single (tree.pure 21 (tree.variable 21 (codes "a"))))) (tree.single (tree.cycle 28 2 34))))) }
 acts_walked = refl
 
+-- comparisons don't chain: the second one is unexpected
 compared_walked : (walk position.start compared_twice).stop ≡ unexpected_at 25
 compared_walked = refl
 

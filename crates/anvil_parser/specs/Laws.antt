@@ -4,7 +4,9 @@ use Rattle.anvil_lexer.specs.declared.token.Token.{Token}
 use Rattle.anvil_lexer.specs.TokenText.{ArePlacesRising}
 use Rattle.anvil_tree.specs.Tree.{File}
 use Rattle.anvil_parser.specs.Grammar.{IsFile}
+use Rattle.anvil_parser.specs.declared.error.ParseErr.{ParseErr}
 use Rattle.anvil_parser.specs.Order.{places_of_file, NeverFall}
+use Rattle.anvil_parser.specs.Refusal.{IsAccepted, IsRefusal, IsFirstRefusal, IsSameRefusal}
 
 -- a list of tokens is one file at most
 abbrev pub EachHasOneTree : Type 0
@@ -13,3 +15,11 @@ EachHasOneTree = (tokens : List Token) (one other : File) → IsFile tokens one 
 -- the places of the tree never fall where those of the tokens rise
 abbrev pub TreesAreInOrder : Type 0
 TreesAreInOrder = (tokens : List Token) (file : File) → ArePlacesRising tokens → IsFile tokens file → NeverFall (places_of_file file)
+
+-- tokens that are a file within all limits have no refusal
+abbrev pub AcceptedHasNoRefusal : Type 0
+AcceptedHasNoRefusal = (tokens : List Token) (file : File) (fault : ParseErr) → IsAccepted tokens file → IsRefusal tokens fault → ⊥
+
+-- first refusals of one list of tokens are of one code, at one place
+abbrev pub FirstRefusalsAreSame : Type 0
+FirstRefusalsAreSame = (tokens : List Token) (one other : ParseErr) → IsFirstRefusal tokens one → IsFirstRefusal tokens other → IsSameRefusal one other

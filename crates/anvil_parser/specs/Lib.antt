@@ -6,12 +6,12 @@ pub mod Begun
 pub mod Limits
 pub mod Refusal
 pub mod Laws
--- What the functions promise each other: readers that compute.
-pub mod Read
-pub mod ReadExpr
-pub mod ReadTerm
-pub mod ReadFile
--- The reading token by token.
+-- What the functions promise each other: the reading token by token, without and within the limits, and how the types of the crate
+-- are seen as its positions.
 pub mod Position
 pub mod Step
 pub mod Limited
+pub mod Seen
+pub mod SeenThread
+pub mod SeenProcess
+pub mod SeenFile

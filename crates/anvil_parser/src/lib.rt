@@ -1,10 +1,33 @@
-//! The grammar of a source file: which lists of tokens are a file, and which tree the file is.
+//! The grammar of a source file: which lists of tokens are a file, which tree the file is, and why a list of tokens is none.
 //!
-//! It begins with the grammar as a relation and with laws over it. The call that answers the tree is not built yet.
+//! `parse` goes over the tokens once. `position` says where the reading of a file stands between two tokens; `class`, `process`,
+//! `endpoint`, `register` and `width` read the parts that follow one another, `begin`, `act` and `expr` those that lie in one another,
+//! which wait in the frames of a `stack`; `counts` keeps the limits.
 #![tactic(auto)]
 
+mod act;
+mod begin;
+mod class;
+mod counts;
+mod endpoint;
 mod error;
+mod expect;
+mod expr;
 mod laws;
+mod operator;
+mod parser;
+mod position;
+mod process;
+mod register;
+mod room;
+mod stack;
+mod step;
+mod thread;
+mod width;
 
+pub use anvil_tree::File;
 pub use error::{Counted, ParseErr};
-pub use laws::{each_has_one_tree, trees_are_in_order};
+pub use laws::{
+    accepted_has_no_refusal, each_has_one_tree, first_refusals_are_same, trees_are_in_order,
+};
+pub use parser::parse;

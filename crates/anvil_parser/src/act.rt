@@ -1,0 +1,392 @@
+//! Reads the acts and terms of a thread token by token.
+ghost use Rattle.std.specs.Prelude.{◌≡◌, ◌≢◌, ◌⊎◌, ◌∷◌, false, MatchResult};
+ghost use Rattle.anvil_parser.specs.Position as position;
+ghost use Rattle.anvil_tree.specs.Tree as tree;
+ghost use Rattle.anvil_tree.specs.View.{act_of, expr_of, term_of};
+ghost use Rattle.anvil_parser.specs.Step.{act_step, expression_step, moves, term_ends};
+ghost use Rattle.anvil_parser.specs.Seen.{IsStep, label_of, step_of};
+ghost use Rattle.anvil_parser.specs.SeenThread.{is_link, joined_step, link_frame_of, linked, operand_frame_of, stack_of, term_frame_of, thread_of, value_frame_of};
+
+use crate::error::ParseErr;
+use crate::expect::expect;
+use crate::expr::binary;
+use crate::room::{boxed, boxed_pair};
+use crate::stack::{Frame, Joint, Link, OperandFrame, Stack, TermFrame, ValueFrame};
+use crate::step::{Begun, Step};
+use crate::thread::{
+    ExprPosition, TermPosition, Thread, ThreadPosition, ThreadStep, goes, waits, within,
+};
+use crate::width::Label;
+use anvil_lexer::{Mark, Name, Token, TokenKind};
+use anvil_tree::{Act, ActKind, Expr, Term};
+use std::alloc::Global;
+
+// An act with its joint and the term behind it.
+fn linked(alloc: Global, link: Link, term: Term) -> Result<Term, ParseErr>
+    ensures { MatchResult result
+        (λ whole. term_of whole ≡ linked link.joint link.bound (act_of link.act) (term_of term))
+        (λ fault. fault ≡ ParseErr.NoMemory) }
+{
+    match boxed(alloc, term) {
+        Ok(term) => match link.joint {
+            Joint::Follow => Ok(Term::Then(link.bound, link.act, term)),
+            Joint::Beside => Ok(Term::Both(link.bound, link.act, term)),
+        },
+        Err(fault) => Err(fault),
+    }
+}
+
+/// `if c { t }`
+pub fn when(alloc: Global, at: u32, cond: Expr, first: Term) -> Result<Act, ParseErr>
+    ensures { MatchResult result
+        (λ act. act_of act ≡ tree.when at (expr_of cond) (term_of first))
+        (λ fault. fault ≡ ParseErr.NoMemory) }
+{
+    match boxed(alloc, first) {
+        Ok(yes) => Ok(Act {
+            at,
+            kind: ActKind::If {
+                cond,
+                yes,
+                no: None,
+            },
+        }),
+        Err(fault) => Err(fault),
+    }
+}
+
+// `if c { t } else { t }`
+fn either(alloc: Global, at: u32, cond: Expr, first: Term, second: Term) -> Result<Act, ParseErr>
+    ensures { MatchResult result
+        (λ act. act_of act ≡ tree.either at (expr_of cond) (term_of first) (term_of second))
+        (λ fault. fault ≡ ParseErr.NoMemory) }
+{
+    match boxed_pair(alloc, first, second) {
+        Ok((yes, no)) => Ok(Act {
+            at,
+            kind: ActKind::If {
+                cond,
+                yes,
+                no: Some(no),
+            },
+        }),
+        Err(fault) => Err(fault),
+    }
+}
+
+// `{ t }`
+fn block(alloc: Global, at: u32, term: Term) -> Result<Act, ParseErr>
+    ensures { MatchResult result
+        (λ act. act_of act ≡ tree.block at (term_of term))
+        (λ fault. fault ≡ ParseErr.NoMemory) }
+{
+    match boxed(alloc, term) {
+        Ok(term) => Ok(Act {
+            at,
+            kind: ActKind::Block(term),
+        }),
+        Err(fault) => Err(fault),
+    }
+}
+
+// Lets a value go: the token cannot stand behind it.
+fn refuse<T: Drop>(_value: T, token: &Token) -> ThreadStep
+    ensures { MatchResult result (λ _. ⊥) (λ fault. fault ≡ ParseErr.Unexpected token.now.at) }
+{
+    Err(ParseErr::Unexpected { at: token.at })
+}
+
+// A term is whole, and what waits for it goes on.
+#[tactic(auto, using(crate::proofs::Joining::link_ends))]
+fn term_ends(alloc: Global, stack: Stack, term: Term, token: &Token) -> ThreadStep
+    ensures { IsStep thread_of term_of token.now (term_ends (stack_of stack) (term_of term)) result }
+{
+    let mut stack = stack;
+    let mut term = term;
+    while let Some(link) = stack.pop_link() {
+        match linked(alloc, link, term) {
+            Ok(whole) => term = whole,
+            Err(fault) => return Err(fault),
+        }
+    }
+    side_ends(alloc, stack, term, token)
+}
+
+// A term is whole that no act stands before.
+fn side_ends(alloc: Global, stack: Stack, term: Term, token: &Token) -> ThreadStep
+    requires { is_link (stack_of stack) ≡ false }
+    ensures { IsStep thread_of term_of token.now (term_ends (stack_of stack) (term_of term)) result }
+{
+    let mut stack = stack;
+    match stack.pop() {
+        None => Ok(Step::Finished(term)),
+        Some(Frame::Term(part)) => part_ends(alloc, stack, part, term),
+        Some(Frame::Operand(part)) => refuse(part, token),
+        Some(Frame::Value(act)) => refuse(act, token),
+        Some(Frame::Link(link)) => refuse(link, token),
+        Some(Frame::Binding(name)) => refuse(name, token),
+    }
+}
+
+// The term that a part of an act waits for is whole.
+fn part_ends(alloc: Global, stack: Stack, part: TermFrame, term: Term) -> ThreadStep
+    ensures { MatchResult result
+        (λ step. step_of thread_of term_of step ≡ term_ends (term_frame_of part ∷ stack_of stack) (term_of term))
+        (λ fault. fault ≡ ParseErr.NoMemory) }
+{
+    let act = match part {
+        TermFrame::FirstSide { at, condition } => {
+            let position = TermPosition::AfterFirst {
+                at,
+                condition,
+                first: term,
+            };
+            return goes(Begun::Nothing, stack, ThreadPosition::Term(position));
+        }
+        TermFrame::SecondSide {
+            at,
+            condition,
+            first,
+        } => either(alloc, at, condition, first, term),
+        TermFrame::Blocking { at } => block(alloc, at, term),
+    };
+    match act {
+        Ok(act) => goes(
+            Begun::Nothing,
+            stack,
+            ThreadPosition::Term(TermPosition::AfterAct(act)),
+        ),
+        Err(fault) => Err(fault),
+    }
+}
+
+/// An act is whole, and the token follows it.
+#[tactic(auto, using(crate::proofs::Joining::act_joined))]
+pub fn act_step(alloc: Global, stack: Stack, act: Act, token: &Token) -> ThreadStep
+    ensures { IsStep thread_of term_of token.now (act_step (stack_of stack) (act_of act) token.now.kind) result }
+{
+    let mut stack = stack;
+    let bound = stack.pop_bound();
+    joined_step(alloc, stack, bound, act, token)
+}
+
+// An act is whole, with the variable that its value is bound to.
+fn joined_step(
+    alloc: Global,
+    stack: Stack,
+    bound: Option<Name>,
+    act: Act,
+    token: &Token,
+) -> ThreadStep
+    ensures { IsStep thread_of term_of token.now (joined_step bound (stack_of stack) (act_of act) token.now.kind) result }
+{
+    match &token.kind {
+        TokenKind::Mark(Mark::Chain) => awaits_term(
+            stack,
+            Link {
+                joint: Joint::Follow,
+                bound,
+                act,
+            },
+        ),
+        TokenKind::Mark(Mark::Semicolon) => awaits_term(
+            stack,
+            Link {
+                joint: Joint::Beside,
+                bound,
+                act,
+            },
+        ),
+        TokenKind::Mark(Mark::CloseBrace) => match bound {
+            None => term_ends(alloc, stack, Term::One(act), token),
+            Some(name) => refuse(name, token),
+        },
+        _ => Err(ParseErr::Unexpected { at: token.at }),
+    }
+}
+
+// An act waits for the term behind it.
+fn awaits_term(stack: Stack, link: Link) -> ThreadStep
+    ensures { MatchResult result
+        (λ step. step_of thread_of term_of step ≡ moves (link_frame_of link ∷ stack_of stack) position.term_wanted)
+        (λ fault. fault ≡ ParseErr.NoMemory) }
+{
+    waits(
+        Begun::Nothing,
+        stack,
+        Frame::Link(link),
+        ThreadPosition::Term(TermPosition::Wanted),
+    )
+}
+
+/// An expression is whole, and the frames that bind it more strongly than the token have taken it.
+pub fn expression_step(alloc: Global, stack: Stack, expr: Expr, token: &Token) -> ThreadStep
+    ensures { IsStep thread_of term_of token.now (expression_step (stack_of stack) (expr_of expr) token.now.kind) result }
+{
+    let mut stack = stack;
+    match stack.pop() {
+        None => refuse(expr, token),
+        Some(Frame::Operand(part)) => part_step(alloc, stack, part, expr, token),
+        Some(Frame::Value(act)) => value_step(alloc, stack, act, expr, token),
+        Some(Frame::Term(part)) => refuse(part, token),
+        Some(Frame::Link(link)) => refuse(link, token),
+        Some(Frame::Binding(name)) => refuse(name, token),
+    }
+}
+
+// The expression that a part of another waits for is whole.
+fn part_step(
+    alloc: Global,
+    stack: Stack,
+    part: OperandFrame,
+    expr: Expr,
+    token: &Token,
+) -> ThreadStep
+    ensures { IsStep thread_of term_of token.now (expression_step (operand_frame_of part ∷ stack_of stack) (expr_of expr) token.now.kind) result }
+{
+    match part {
+        OperandFrame::Grouping => closes(stack, expr, token),
+        OperandFrame::Calling { operator, at } => {
+            let frame = OperandFrame::CallingSecond {
+                operator,
+                at,
+                first: expr,
+            };
+            awaits_operand(stack, frame, token, Mark::Comma)
+        }
+        OperandFrame::CallingSecond {
+            operator,
+            at,
+            first,
+        } => match binary(alloc, at, operator, first, expr) {
+            Ok(whole) => closes(stack, whole, token),
+            Err(fault) => Err(fault),
+        },
+        OperandFrame::Choosing { at, condition } => {
+            let frame = OperandFrame::ChoosingSecond {
+                at,
+                condition,
+                first: expr,
+            };
+            awaits_operand(stack, frame, token, Mark::Colon)
+        }
+        OperandFrame::Inverting { .. } => Err(ParseErr::Unexpected { at: token.at }),
+        OperandFrame::Operating { left, .. } => refuse(left, token),
+        OperandFrame::ChoosingSecond {
+            condition,
+            first,
+            ..
+        } => refuse((condition, first), token),
+    }
+}
+
+// `)` closes an operand.
+fn closes(stack: Stack, operand: Expr, token: &Token) -> ThreadStep
+    ensures { MatchResult result
+        (λ step. (token.now.kind ≡ TokenKind.Mark Mark.CloseParen) × (step_of thread_of term_of step ≡ moves (stack_of stack) (position.after_operand (expr_of operand))))
+        (λ fault. (token.now.kind ≢ TokenKind.Mark Mark.CloseParen) × (fault ≡ ParseErr.Unexpected token.now.at)) }
+{
+    let position = ThreadPosition::Expr(ExprPosition::AfterOperand(operand));
+    expect(token, Mark::CloseParen, Thread { stack, position })
+}
+
+// A part of an expression waits for an expression behind the mark.
+fn awaits_operand(stack: Stack, frame: OperandFrame, token: &Token, mark: Mark) -> ThreadStep
+    ensures { MatchResult result
+        (λ step. (token.now.kind ≡ TokenKind.Mark mark) × (step_of thread_of term_of step ≡ moves (operand_frame_of frame ∷ stack_of stack) position.operand_wanted))
+        (λ fault. (fault ≡ ParseErr.NoMemory) ⊎ ((token.now.kind ≢ TokenKind.Mark mark) × (fault ≡ ParseErr.Unexpected token.now.at))) }
+{
+    match within(
+        stack,
+        Frame::Operand(frame),
+        ThreadPosition::Expr(ExprPosition::OperandWanted),
+    ) {
+        Ok(thread) => expect(token, mark, thread),
+        Err(fault) => Err(fault),
+    }
+}
+
+// The expression of an act is whole.
+fn value_step(alloc: Global, stack: Stack, act: ValueFrame, expr: Expr, token: &Token) -> ThreadStep
+    ensures { IsStep thread_of term_of token.now (expression_step (value_frame_of act ∷ stack_of stack) (expr_of expr) token.now.kind) result }
+{
+    match act {
+        ValueFrame::Setting { at, register } => act_step(
+            alloc,
+            stack,
+            set(at, register, expr),
+            token,
+        ),
+        ValueFrame::Sending {
+            at,
+            endpoint,
+            message,
+        } => {
+            let position = ThreadPosition::Term(TermPosition::AfterAct(send(
+                at, endpoint, message, expr,
+            )));
+            expect(token, Mark::CloseParen, Thread { stack, position })
+        }
+        ValueFrame::Deciding { at } => decides(stack, at, expr, token),
+        ValueFrame::Evaluating => {
+            let act = Act {
+                at: expr.at,
+                kind: ActKind::Pure(expr),
+            };
+            act_step(alloc, stack, act, token)
+        }
+    }
+}
+
+// The condition of an `if` is whole.
+fn decides(stack: Stack, at: u32, condition: Expr, token: &Token) -> ThreadStep
+    ensures { IsStep thread_of term_of token.now (expression_step (position.deciding at ∷ stack_of stack) (expr_of condition) token.now.kind) result }
+{
+    let frame = Frame::Term(TermFrame::FirstSide { at, condition });
+    match within(stack, frame, ThreadPosition::Term(TermPosition::Wanted)) {
+        Ok(thread) => expect(token, Mark::OpenBrace, thread),
+        Err(fault) => Err(fault),
+    }
+}
+
+// `set r := e`
+fn set(at: u32, register: Label, value: Expr) -> Act
+    ensures { act_of result ≡ tree.set at register.name register.at (expr_of value) }
+{
+    let Label {
+        name: register,
+        at: register_at,
+    } = register;
+    Act {
+        at,
+        kind: ActKind::Set {
+            register,
+            register_at,
+            value,
+        },
+    }
+}
+
+// `send e.m(v)`
+fn send(at: u32, endpoint: Label, message: Label, value: Expr) -> Act
+    ensures { act_of result ≡ tree.send at endpoint.name endpoint.at message.name message.at (expr_of value) }
+{
+    let Label {
+        name: endpoint,
+        at: endpoint_at,
+    } = endpoint;
+    let Label {
+        name: message,
+        at: message_at,
+    } = message;
+    Act {
+        at,
+        kind: ActKind::Send {
+            endpoint,
+            endpoint_at,
+            message,
+            message_at,
+            value,
+        },
+    }
+}

@@ -1,0 +1,67 @@
+//! Tokens that are wanted at a position, and what follows where they stand there.
+ghost use Rattle.std.specs.Prelude.{◌≡◌, ◌≢◌, ℕ, List, MatchBool, MatchResult};
+ghost use Rattle.anvil_parser.specs.Words.{side_of};
+
+use crate::error::ParseErr;
+use crate::step::{Begun, Step};
+use crate::width::Label;
+use anvil_lexer::{Keyword, Mark, Token, TokenKind};
+use anvil_tree::Side;
+
+/// Goes on where the token is the mark.
+pub fn expect<P: Drop, R: Drop>(token: &Token, mark: Mark, next: P) -> Result<Step<P, R>, ParseErr>
+    ensures { MatchResult result
+        (λ step. (token.now.kind ≡ TokenKind.Mark mark) × (step ≡ Step.Onward Begun.Nothing next))
+        (λ fault. (token.now.kind ≢ TokenKind.Mark mark) × (fault ≡ ParseErr.Unexpected token.now.at)) }
+{
+    match &token.kind {
+        TokenKind::Mark(found) if *found == mark => Ok(Step::Onward(Begun::Nothing, next)),
+        _ => Err(ParseErr::Unexpected { at: token.at }),
+    }
+}
+
+/// The word that the token is.
+pub fn word(token: &Token) -> Result<Label, ParseErr>
+    ensures { MatchResult result
+        (λ label. (token.now.kind ≡ TokenKind.Word label.name) × (label.at ≡ token.now.at))
+        (λ fault. ((name : List ℕ) → token.now.kind ≢ TokenKind.Word name) × (fault ≡ ParseErr.Unexpected token.now.at)) }
+{
+    match &token.kind {
+        TokenKind::Word(name) => Ok(Label {
+            name: name.copy(),
+            at: token.at,
+        }),
+        _ => Err(ParseErr::Unexpected { at: token.at }),
+    }
+}
+
+/// The side that the token names.
+pub fn side(token: &Token) -> Option<Side>
+    ensures { result ≡ side_of token.now.kind }
+{
+    match &token.kind {
+        TokenKind::Key(Keyword::Left) => Some(Side::Left),
+        TokenKind::Key(Keyword::Right) => Some(Side::Right),
+        _ => None,
+    }
+}
+
+/// Whether the token is the mark.
+pub fn is_mark(token: &Token, mark: Mark) -> bool
+    ensures { MatchBool result (token.now.kind ≡ TokenKind.Mark mark) (token.now.kind ≢ TokenKind.Mark mark) }
+{
+    match &token.kind {
+        TokenKind::Mark(found) => *found == mark,
+        _ => false,
+    }
+}
+
+/// Whether the token is the keyword.
+pub fn is_key(token: &Token, key: Keyword) -> bool
+    ensures { MatchBool result (token.now.kind ≡ TokenKind.Key key) (token.now.kind ≢ TokenKind.Key key) }
+{
+    match &token.kind {
+        TokenKind::Key(found) => *found == key,
+        _ => false,
+    }
+}
