@@ -2,6 +2,8 @@
 use anvil_tool::{MemShelf, MemSink, Status, run_tool};
 use std::alloc::{AllocError, Global};
 
+pub const NOT_BUILT: &[u8] = b"refused: NotBuilt\n";
+
 /// Which loads and puts fail, by their numbers.
 #[derive(Clone, Copy)]
 pub struct Faults<'a> {

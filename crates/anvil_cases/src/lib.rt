@@ -5,3 +5,5 @@
 mod bench;
 #[cfg(test)]
 mod compile;
+#[cfg(test)]
+mod refused;

@@ -1,1 +1,5 @@
 pub mod Told
+-- The modules of the processes of a file.
+pub mod Described
+-- Which refusal bytes have.
+pub mod Refusals

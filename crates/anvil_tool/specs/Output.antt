@@ -1,5 +1,10 @@
 -- What is written for a file.
-use Rattle.std.specs.Prelude.{◌≡◌, ℕ, ◌≤◌, List, length, IfSome, Option}
+use Rattle.std.specs.Prelude.{◌≡◌, ℕ, ◌≤◌, List, length, flat_map, IfSome, Option}
+use Rattle.std.specs.List.{AllZip}
+use Rattle.anvil_lexer.specs.declared.token.Token.{Token}
+use Rattle.anvil_lexer.specs.TokenText.{IsTokenText}
+use Rattle.anvil_tree.specs.Tree.{File}
+use Rattle.anvil_parser.specs.Refusal.{IsAccepted}
 use Rattle.plain_file.specs.Plain.{Counter, IsPlainFile}
 use Rattle.sv_tree.specs.Module.{Module}
 use Rattle.sv_tree.specs.WellFormed.{IsWellFormed}
@@ -18,6 +23,12 @@ pub record IsLoad (told : Option (List ℕ)) (bytes : List ℕ) : Type 0 where
   pub kept : IfSome told (λ under. bytes ≡ under)
   pub within : length bytes ≤ longest_file
 
+-- bytes that spell the file: by their tokens, which are that file and within all limits
+pub record IsFileText (bytes : List ℕ) (file : File) : Type 0 where
+  pub tokens : List Token
+  pub spelled : IsTokenText bytes tokens
+  pub accepted : IsAccepted tokens file
+
 -- the process of a plain file: one thread, `set R := *R + W'dL >> cycle N`, and no ports
 abbrev pub process_of : Counter → Process
 process_of counter = counting_process counter.process counter.register counter.width counter.addend counter.cycles
@@ -31,14 +42,28 @@ pub record IsModule (counter : Counter) (m : Module) : Type 0 where
   pub shows : ShowsTheRun m (process_of counter)
   pub bits : IsWithinStateBits counter.width counter.cycles m
 
--- the text that is written for a plain file: that of one module of its process
-pub record IsOutput (bytes text : List ℕ) : Type 0 where
-  pub counter : Counter
-  pub plain : IsPlainFile counter bytes
-  pub tree : Module
-  pub describes : IsModule counter tree
-  pub written : text ≡ module_text tree
+-- one module for each process, in the order of the processes
+abbrev pub AreModules : List Counter → List Module → Type 0
+AreModules counters modules = AllZip IsModule counters modules
 
--- bytes that are no plain file
-abbrev pub IsNotPlain : List ℕ → Type 0
-IsNotPlain bytes = (counter : Counter) → IsPlainFile counter bytes → ⊥
+-- the same of a plain file, in the order of the file
+pub record AreModulesOfFile (file : File) (modules : List Module) : Type 0 where
+  pub counters : List Counter
+  pub plain : IsPlainFile counters file
+  pub describe : AreModules counters modules
+
+-- the same of the bytes of one
+pub record AreModulesOf (bytes : List ℕ) (modules : List Module) : Type 0 where
+  pub file : File
+  pub spelled : IsFileText bytes file
+  pub describe : AreModulesOfFile file modules
+
+-- the texts of modules, one after the other
+abbrev pub texts_of : List Module → List ℕ
+texts_of modules = flat_map module_text modules
+
+-- the text that is written for a plain file: those of such modules
+pub record IsOutput (bytes text : List ℕ) : Type 0 where
+  pub modules : List Module
+  pub describe : AreModulesOf bytes modules
+  pub written : text ≡ texts_of modules

@@ -1,25 +1,26 @@
 //! The command `compile`.
-ghost use Rattle.std.specs.Prelude.{◌≡◌, ◌≢◌, ◌⊎◌, ◌≤◌, ◌<◌, List, ℕ, length, IfOk, IfSome, IfNone};
+ghost use Rattle.std.specs.Prelude.{◌≡◌, ◌≢◌, ◌⊎◌, ◌≤◌, ◌<◌, ◌^◌, List, ℕ, length, IfOk, IfSome, IfNone};
 ghost use Rattle.std.specs.Io.KnownBytes.{Appends};
-ghost use Rattle.anvil_io.specs.Causes.{AppendsPrefix, GrewPast, Rose};
-ghost use Rattle.plain_file.specs.Plain.{Counter, IsCounter, IsPlainFile};
-ghost use Rattle.plain_file.specs.Seen.{counter_of};
-ghost use Rattle.anvil_tool.specs.Answer.{HasNoFault, IsUntouched, IsWritten, LineFailed, OutFailed, no_memory_line, not_built_line, read_fault_line, too_long_line};
-ghost use Rattle.anvil_tool.specs.Output.{IsLoad, IsModule, IsNotPlain, IsOutput, longest_file};
+ghost use Rattle.anvil_io.specs.Causes.{AppendsPrefix, GrewPast, Puts, Rose};
+ghost use Rattle.anvil_tree.specs.Tree.{File};
+ghost use Rattle.plain_file.specs.Plain.{Counter, IsPlainFile};
+ghost use Rattle.anvil_tool.specs.declared.refusal.Refusal.{Refusal};
+ghost use Rattle.anvil_tool.specs.Answer.{HasNoFault, IsLine, IsTold, IsUntouched, IsWritten, LineFailed, OutFailed, read_fault_line, too_long_line};
+ghost use Rattle.anvil_tool.specs.Output.{IsFileText, IsOutput, longest_file, texts_of};
+ghost use Rattle.anvil_tool.specs.Refused.{IsRefusalLine, IsRefused, no_memory_line, refusal_line};
 
-use crate::complain::{complain, complain_of};
+use crate::complain::{complain, complain_of, complain_refusal};
+use crate::modules::read_modules;
 use crate::status::Status;
-use anvil_io::{LoadErr, Shelf, Sink};
-use anvil_lexer::Name;
-use fsm_builder::{Bits, SvModule, build_counter};
-use plain_file::{Plain, read_plain};
-use std::alloc::{AllocError, Global};
+use anvil_io::{LoadErr, Shelf, Sink, SinkFault};
+use fsm_builder::SvModule;
+use std::alloc::Global;
 use sv_writer::write_module;
 
 /// The most bytes of a file.
 const LONGEST_FILE: u32 = 1048576;
 
-/// Loads a file and puts the module of its process.
+/// Loads a file and puts the modules of its processes.
 pub fn compile_file<S: Shelf, O: Sink, E: Sink>(
     alloc: Global,
     file: &str,
@@ -37,27 +38,27 @@ pub fn compile_file<S: Shelf, O: Sink, E: Sink>(
     ensures long { IfSome (S.told shelf.old file.now) (λ bytes.
         longest_file < length bytes → HasNoFault (S.faults shelf.old) (S.faults shelf.new)
         → (result ≡ Status.TooLong) ⊎ (result ≡ Status.WriteFault)) }
-    ensures refused { result ≡ Status.Refused → (bytes : List ℕ) × IsLoad (S.told shelf.old file.now) bytes × IsNotPlain bytes }
-    ensures not_plain { IfSome (S.told shelf.old file.now) (λ bytes.
-        IsNotPlain bytes → length bytes ≤ longest_file → HasNoFault (S.faults shelf.old) (S.faults shelf.new)
-        → (result ≡ Status.Refused) ⊎ (result ≡ Status.NoMemory) ⊎ (result ≡ Status.WriteFault)) }
+    ensures refused { result ≡ Status.Refused → IsTold (S.told shelf.old file.now) (E.held err.old) (E.held err.new) }
+    ensures every_refusal { IfSome (S.told shelf.old file.now) (λ bytes. (refusal : Refusal) → IsRefused bytes refusal
+        → length bytes ≤ longest_file → HasNoFault (S.faults shelf.old) (S.faults shelf.new)
+        → ((result ≡ Status.Refused) × Appends (E.held err.old) (E.held err.new) (refusal_line refusal))
+        ⊎ (result ≡ Status.NoMemory) ⊎ (result ≡ Status.WriteFault)) }
     ensures done { result ≡ Status.Done → IsWritten (S.told shelf.old file.now) (O.held out.old) (O.held out.new) }
     ensures untouched { result ≢ Status.Done → result ≢ Status.WriteFault →
         IsUntouched (O.held out.old) (O.held out.new) (O.faults out.old) (O.faults out.new) }
     ensures quiet { result ≡ Status.Done → IsUntouched (E.held err.old) (E.held err.new) (E.faults err.old) (E.faults err.new) }
     ensures read_fault_line { result ≡ Status.ReadFault → Appends (E.held err.old) (E.held err.new) (read_fault_line file.now) }
     ensures too_long_line { result ≡ Status.TooLong → Appends (E.held err.old) (E.held err.new) (too_long_line file.now) }
-    ensures not_built_line { result ≡ Status.Refused → Appends (E.held err.old) (E.held err.new) not_built_line }
     ensures no_memory_line { result ≡ Status.NoMemory → Appends (E.held err.old) (E.held err.new) no_memory_line }
     ensures write_fault { result ≡ Status.WriteFault →
         (OutFailed (S.told shelf.old file.now) (O.held out.old) (O.held out.new) (O.faults out.old) (O.faults out.new)
         × IsUntouched (E.held err.old) (E.held err.new) (E.faults err.old) (E.faults err.new))
         ⊎ (IsUntouched (O.held out.old) (O.held out.new) (O.faults out.old) (O.faults out.new)
-        × LineFailed (Some file.now) (E.held err.old) (E.held err.new) (E.faults err.old) (E.faults err.new)) }
+        × LineFailed (IsLine (Some file.now) (S.told shelf.old)) (E.held err.old) (E.held err.new) (E.faults err.old) (E.faults err.new)) }
     ensures out_fault { O.faults out.old < O.faults out.new → result ≡ Status.WriteFault }
     ensures err_fault { E.faults err.old < E.faults err.new → result ≡ Status.WriteFault }
     ensures complete { IfSome (S.told shelf.old file.now) (λ bytes.
-        (counter : Counter) → IsPlainFile counter bytes → length bytes ≤ longest_file
+        (file : File) (counters : List Counter) → IsFileText bytes file → IsPlainFile counters file → length bytes ≤ longest_file
         → HasNoFault (S.faults shelf.old) (S.faults shelf.new)
         → HasNoFault (O.faults out.old) (O.faults out.new)
         → HasNoFault (E.faults err.old) (E.faults err.new)
@@ -73,26 +74,16 @@ pub fn compile_file<S: Shelf, O: Sink, E: Sink>(
     }
 }
 
-// The module of a plain file's process.
-fn module_of(alloc: Global, plain: Plain) -> Result<SvModule, AllocError>
-    requires { IsCounter (counter_of plain) }
-    ensures { IfOk result (IsModule (counter_of plain.entry)) }
-{
-    let process = Name::of(alloc, plain.process);
-    let register = Name::of(alloc, plain.register);
-    let addend = Bits::new(plain.width, plain.addend);
-    build_counter(alloc, process, register, addend, plain.cycles)
-}
-
-// Puts the module of a plain file's process, or the line that stands beside a refusal.
+// Puts the modules of a plain file, or the line that stands beside a refusal.
 fn compile<O: Sink, E: Sink>(alloc: Global, bytes: &[u8], out: &mut O, err: &mut E) -> Status
+    requires { length bytes.now ≤ longest_file }
     ensures status { (result ≡ Status.Done) ⊎ (result ≡ Status.Refused) ⊎ (result ≡ Status.NoMemory) ⊎ (result ≡ Status.WriteFault) }
     ensures done { result ≡ Status.Done → (text : List ℕ) × IsOutput bytes.now text × Appends (O.held out.old) (O.held out.new) text }
     ensures done_quiet { result ≡ Status.Done → IsUntouched (E.held err.old) (E.held err.new) (E.faults err.old) (E.faults err.new) }
     ensures out_fine { result ≢ Status.WriteFault → O.faults out.new ≡ O.faults out.old }
-    ensures refused { result ≡ Status.Refused → IsNotPlain bytes.now }
-    ensures not_plain { IsNotPlain bytes.now → (result ≡ Status.Refused) ⊎ (result ≡ Status.WriteFault) }
-    ensures refused_line { result ≡ Status.Refused → Appends (E.held err.old) (E.held err.new) not_built_line }
+    ensures refused { result ≡ Status.Refused → (line : List ℕ) × IsRefusalLine bytes.now line × Appends (E.held err.old) (E.held err.new) line }
+    ensures every_refusal { (refusal : Refusal) → IsRefused bytes.now refusal
+        → ((result ≡ Status.Refused) × Appends (E.held err.old) (E.held err.new) (refusal_line refusal)) ⊎ (result ≡ Status.NoMemory) ⊎ (result ≡ Status.WriteFault) }
     ensures memory_line { result ≡ Status.NoMemory → Appends (E.held err.old) (E.held err.new) no_memory_line }
     ensures err_fine { result ≢ Status.WriteFault → E.faults err.new ≡ E.faults err.old }
     ensures untouched { result ≢ Status.Done → result ≢ Status.WriteFault → IsUntouched (O.held out.old) (O.held out.new) (O.faults out.old) (O.faults out.new) }
@@ -100,21 +91,29 @@ fn compile<O: Sink, E: Sink>(alloc: Global, bytes: &[u8], out: &mut O, err: &mut
         ((text : List ℕ) × IsOutput bytes.now text × AppendsPrefix (O.held out.old) (O.held out.new) text
         × Rose (O.faults out.old) (O.faults out.new) × IsUntouched (E.held err.old) (E.held err.new) (E.faults err.old) (E.faults err.new))
         ⊎ (IsUntouched (O.held out.old) (O.held out.new) (O.faults out.old) (O.faults out.new)
-        × (line : List ℕ) × ((line ≡ not_built_line) ⊎ (line ≡ no_memory_line)) × AppendsPrefix (E.held err.old) (E.held err.new) line × Rose (E.faults err.old) (E.faults err.new)) }
+        × (line : List ℕ) × ((line ≡ no_memory_line) ⊎ IsRefusalLine bytes.now line) × AppendsPrefix (E.held err.old) (E.held err.new) line × Rose (E.faults err.old) (E.faults err.new)) }
     ensures later { O.faults out.old ≤ O.faults out.new }
     ensures err_later { E.faults err.old ≤ E.faults err.new }
-    ensures complete { (counter : Counter) → IsPlainFile counter bytes.now
+    ensures complete { (file : File) (counters : List Counter) → IsFileText bytes.now file → IsPlainFile counters file
         → HasNoFault (O.faults out.old) (O.faults out.new) → HasNoFault (E.faults err.old) (E.faults err.new)
         → (result ≡ Status.Done) ⊎ (result ≡ Status.NoMemory) }
 {
-    let Some(plain) = read_plain(bytes) else {
-        return complain(err, &[b"refused: NotBuilt\n"], Status::Refused);
+    let modules = match read_modules(alloc, bytes) {
+        Ok(modules) => modules,
+        Err(refusal) => return complain_refusal(err, refusal),
     };
-    let Ok(module) = module_of(alloc, plain) else {
-        return complain(err, &[b"no memory\n"], Status::NoMemory);
-    };
-    match write_module(&module, out) {
+    match put_modules(&modules, out) {
         Ok(()) => Status::Done,
         Err(_) => Status::WriteFault,
     }
+}
+
+// The texts of modules, one after the other.
+fn put_modules<O: Sink>(modules: &[SvModule], out: &mut O) -> Result<(), SinkFault>
+    ensures { Puts (O.held out.old) (O.held out.new) (O.faults out.old) (O.faults out.new) (texts_of modules.now) result }
+{
+    for module in modules {
+        write_module(module, out)?;
+    }
+    Ok(())
 }

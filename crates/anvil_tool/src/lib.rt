@@ -6,6 +6,8 @@
 
 mod compile;
 mod complain;
+mod modules;
+mod refusal;
 mod status;
 mod tool;
 mod words;

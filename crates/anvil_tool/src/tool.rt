@@ -2,9 +2,12 @@
 ghost use Rattle.std.specs.Prelude.{◌≡◌, ◌≢◌, ◌⊎◌, ◌≤◌, ◌<◌, ◌-◌, ◌^◌, List, ℕ, length, IfSome, IfNone, IsNone};
 ghost use Rattle.std.specs.Io.KnownBytes.{Appends};
 ghost use Rattle.anvil_io.specs.Causes.{GrewPast, Rose};
+ghost use Rattle.anvil_tree.specs.Tree.{File};
 ghost use Rattle.plain_file.specs.Plain.{Counter, IsPlainFile};
-ghost use Rattle.anvil_tool.specs.Answer.{HasNoFault, IsUntouched, IsWritten, LineFailed, OutFailed, no_memory_line, not_built_line, read_fault_line, too_long_line, usage_line};
-ghost use Rattle.anvil_tool.specs.Output.{IsLoad, IsNotPlain, longest_file};
+ghost use Rattle.anvil_tool.specs.declared.refusal.Refusal.{Refusal};
+ghost use Rattle.anvil_tool.specs.Answer.{HasNoFault, IsLine, IsTold, IsUntouched, IsWritten, LineFailed, OutFailed, read_fault_line, too_long_line, usage_line};
+ghost use Rattle.anvil_tool.specs.Output.{IsFileText, longest_file};
+ghost use Rattle.anvil_tool.specs.Refused.{IsRefused, no_memory_line, refusal_line};
 ghost use Rattle.anvil_tool.specs.Words.{file_of, words_of};
 
 use crate::compile::compile_file;
@@ -14,7 +17,7 @@ use crate::words::file_of;
 use anvil_io::{Shelf, Sink};
 use std::alloc::Global;
 
-/// Does what the words say: `compile FILE` puts the module of a plain file's process to `out`.
+/// Does what the words say: `compile FILE` puts the modules of a plain file's processes to `out`, in the order of the file.
 ///
 /// `words` leaves out the program's own name. The shelf is asked for FILE alone, so it has to be one that may be asked for.
 /// On every status but `Done` and `WriteFault` nothing is put to `out`, and one line is put to `err`.
@@ -45,12 +48,14 @@ pub fn run_tool<S: Shelf, O: Sink, E: Sink>(
         longest_file < length bytes → HasNoFault (S.faults shelf.old) (S.faults shelf.new)
         → (result ≡ Status.TooLong) ⊎ (result ≡ Status.WriteFault))) }
 
-    // FILE is no plain file.
+    // FILE is refused: by the lexer, by the parser, or because it is no plain file. The line on `err` says by which and where.
     ensures refused { result ≡ Status.Refused → IfSome (file_of (words_of words.now)) (λ file.
-        (bytes : List ℕ) × IsLoad (S.told shelf.old file) bytes × IsNotPlain bytes) }
-    ensures not_plain { IfSome (file_of (words_of words.now)) (λ file. IfSome (S.told shelf.old file) (λ bytes.
-        IsNotPlain bytes → length bytes ≤ longest_file → HasNoFault (S.faults shelf.old) (S.faults shelf.new)
-        → (result ≡ Status.Refused) ⊎ (result ≡ Status.NoMemory) ⊎ (result ≡ Status.WriteFault))) }
+        IsTold (S.told shelf.old file) (E.held err.old) (E.held err.new)) }
+    ensures every_refusal { IfSome (file_of (words_of words.now)) (λ file. IfSome (S.told shelf.old file) (λ bytes.
+        (refusal : Refusal) → IsRefused bytes refusal
+        → length bytes ≤ longest_file → HasNoFault (S.faults shelf.old) (S.faults shelf.new)
+        → ((result ≡ Status.Refused) × Appends (E.held err.old) (E.held err.new) (refusal_line refusal))
+        ⊎ (result ≡ Status.NoMemory) ⊎ (result ≡ Status.WriteFault))) }
 
     // What stands on `out`.
     ensures done { result ≡ Status.Done → IfSome (file_of (words_of words.now)) (λ file.
@@ -65,7 +70,6 @@ pub fn run_tool<S: Shelf, O: Sink, E: Sink>(
         Appends (E.held err.old) (E.held err.new) (read_fault_line file)) }
     ensures too_long_line { result ≡ Status.TooLong → IfSome (file_of (words_of words.now)) (λ file.
         Appends (E.held err.old) (E.held err.new) (too_long_line file)) }
-    ensures not_built_line { result ≡ Status.Refused → Appends (E.held err.old) (E.held err.new) not_built_line }
     ensures no_memory_line { result ≡ Status.NoMemory → Appends (E.held err.old) (E.held err.new) no_memory_line }
 
     // A put failed, and nothing was put after it.
@@ -74,13 +78,13 @@ pub fn run_tool<S: Shelf, O: Sink, E: Sink>(
         × OutFailed (S.told shelf.old file) (O.held out.old) (O.held out.new) (O.faults out.old) (O.faults out.new)
         × IsUntouched (E.held err.old) (E.held err.new) (E.faults err.old) (E.faults err.new))
         ⊎ (IsUntouched (O.held out.old) (O.held out.new) (O.faults out.old) (O.faults out.new)
-        × LineFailed (file_of (words_of words.now)) (E.held err.old) (E.held err.new) (E.faults err.old) (E.faults err.new)) }
+        × LineFailed (IsLine (file_of (words_of words.now)) (S.told shelf.old)) (E.held err.old) (E.held err.new) (E.faults err.old) (E.faults err.new)) }
     ensures out_fault { O.faults out.old < O.faults out.new → result ≡ Status.WriteFault }
     ensures err_fault { E.faults err.old < E.faults err.new → result ≡ Status.WriteFault }
 
     // Where nothing stands against it, the file is compiled, or no memory was found.
     ensures complete { IfSome (file_of (words_of words.now)) (λ file. IfSome (S.told shelf.old file) (λ bytes.
-        (counter : Counter) → IsPlainFile counter bytes → length bytes ≤ longest_file
+        (tree : File) (counters : List Counter) → IsFileText bytes tree → IsPlainFile counters tree → length bytes ≤ longest_file
         → HasNoFault (S.faults shelf.old) (S.faults shelf.new)
         → HasNoFault (O.faults out.old) (O.faults out.new)
         → HasNoFault (E.faults err.old) (E.faults err.new)

@@ -1,4 +1,7 @@
-pub mod Runs
-pub mod Words
-pub mod Registers
-pub mod Files
+-- One counter at most for each tree.
+pub mod OneCounter
+-- The items of a file one after the other, and the names of their processes.
+pub mod Items
+pub mod Names
+-- Examples.
+pub mod Examples

@@ -1,6 +1,3 @@
--- What a plain file is: read this first.
-pub mod Keyword
+-- What a plain file is, and how the reader's answer is seen: read in this order.
 pub mod Plain
 pub mod Seen
--- What the functions promise each other.
-pub mod Parts

@@ -1,14 +1,9 @@
-//! Reads a plain file: one process that adds a constant to its register, and then waits.
+//! Recognises a plain file: one of processes that each add a constant to a register of their own, and then wait.
 //!
-//! Takes bytes and gives the parts of the process, as slices and numbers, where the bytes are those of such a file.
+//! Takes the tree of a file and gives the parts of each process, as names and numbers, where the file is such a one.
 #![tactic(auto)]
 
-mod parts;
-mod pieces;
+mod counting;
 mod plain;
-mod plain_name;
 
 pub use plain::{Plain, read_plain};
-
-#[cfg(test)]
-mod tests;

@@ -1,5 +1,0 @@
-use Rattle.std.proofs.Common.{length}
-use Rattle.plain_file.proofs.pieces.+after_words.Given as goal
-
-abbrev pub decreases-after_words : goal.decreases-after_words
-decreases-after_words l = length l.words.now
