@@ -232,17 +232,25 @@ fn files_at_the_limits_are_plain(rt: HostRuntime) -> Result<(), Fail> {
 #[test]
 fn two_processes_give_two_modules(rt: HostRuntime) -> Result<(), Fail> {
     let first = b"proc first ( ) {reg a:logic [ 8 ] ;loop{set a:=(*a)+(8'h01)>>cycle 2}} // one\n";
-    let second = b"proc second()\n{ reg sum : logic[16];\n  loop { set sum := (*sum + 16'hBeef) // two\n    >> cycle 300 } }\n";
+    let second =
+        b"proc second()\n{ reg sum : logic[16];\n  loop { set sum := (*sum + 16'hBeef) // two\n    >> cycle 300 } }\n";
     let mut both = Vec::from_slice(rt.alloc(), first.as_slice())?;
     both.extend_from_slice(second.as_slice())?;
     let words: [&str; 2] = ["compile", "f"];
     let one = run(rt.alloc(), &words, first.as_slice(), NO_FAULTS)?;
     let other = run(rt.alloc(), &words, second.as_slice(), NO_FAULTS)?;
     let done = run(rt.alloc(), &words, &both, NO_FAULTS)?;
-    assert!(rt; one.status == Status::Done && one.out.bytes().starts_with(b"module anvil__first ("));
-    assert!(rt; other.status == Status::Done && other.out.bytes().starts_with(b"module anvil__second ("));
+    assert!(rt;
+        one.status == Status::Done && one.out.bytes().starts_with(b"module anvil__first (")
+    );
+    assert!(rt;
+        other.status == Status::Done && other.out.bytes().starts_with(b"module anvil__second (")
+    );
     assert!(rt; done.status == Status::Done);
-    assert_eq!(rt; done.out.bytes().strip_prefix(one.out.bytes()), Some(other.out.bytes()));
+    assert_eq!(rt;
+        done.out.bytes().strip_prefix(one.out.bytes()),
+        Some(other.out.bytes())
+    );
     assert_eq!(rt; done.err.bytes(), b"".as_slice());
     Ok(())
 }

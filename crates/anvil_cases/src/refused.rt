@@ -11,7 +11,8 @@ const SET: &[u8] = b"proc d() { reg a : logic[8]; loop { set a := ";
 const END: &[u8] = b" } }";
 
 /// A client of a memory, with a second channel to write back by.
-const CLIENT: &[u8] = b"chan mem { left rd : (logic[16]@rsp), right rsp : (logic[32]@#2) }\nchan wb { left wr : (logic[48]@ok), right ok : (logic[1]@#1) }\nproc client(m : right mem, w : right wb) {\n  reg addr : logic[16]; reg sum : logic[32]; reg out : logic[48];\n  loop { send m.rd(*addr) >> let d = recv m.rsp >> set sum := *sum + d >> set addr := *addr + 16'd4 }\n  loop { set out := cat(*addr, *sum) >> send w.wr(*out) >> let k = recv w.ok >> cycle 8 }\n}\n";
+const CLIENT: &[u8] =
+    b"chan mem { left rd : (logic[16]@rsp), right rsp : (logic[32]@#2) }\nchan wb { left wr : (logic[48]@ok), right ok : (logic[1]@#1) }\nproc client(m : right mem, w : right wb) {\n  reg addr : logic[16]; reg sum : logic[32]; reg out : logic[48];\n  loop { send m.rd(*addr) >> let d = recv m.rsp >> set sum := *sum + d >> set addr := *addr + 16'd4 }\n  loop { set out := cat(*addr, *sum) >> send w.wr(*out) >> let k = recv w.ok >> cycle 8 }\n}\n";
 
 // A text of parts, each so many times.
 fn text_of(alloc: Global, parts: &[(&[u8], usize)]) -> Result<Vec<u8>, AllocError> {
@@ -124,12 +125,7 @@ fn the_line_has_code_and_place(rt: HostRuntime) -> Result<(), Fail> {
 fn a_file_cut_short(rt: HostRuntime) -> Result<(), Fail> {
     let mut whole = 0u32;
     for length in 0..CLIENT.len() {
-        let cut = run(
-            rt.alloc(),
-            &["compile", "f"],
-            &CLIENT[..length],
-            NO_FAULTS,
-        )?;
+        let cut = run(rt.alloc(), &["compile", "f"], &CLIENT[..length], NO_FAULTS)?;
         assert_eq!(rt; cut.out.bytes(), b"".as_slice());
         if cut.status == Status::Done || cut.err.bytes() == NOT_BUILT {
             whole = whole.saturating_add(1);

@@ -3,3 +3,5 @@ pub mod Told
 pub mod Described
 -- Which refusal bytes have.
 pub mod Refusals
+-- The text of the modules.
+pub mod Written

@@ -1,5 +1,5 @@
 -- What is written for a file.
-use Rattle.std.specs.Prelude.{◌≡◌, ℕ, ◌≤◌, List, length, flat_map, IfSome, Option}
+use Rattle.std.specs.Prelude.{◌≡◌, ℕ, ◌≤◌, List, length, IfSome, Option}
 use Rattle.std.specs.List.{AllZip}
 use Rattle.anvil_lexer.specs.declared.token.Token.{Token}
 use Rattle.anvil_lexer.specs.TokenText.{IsTokenText}
@@ -8,7 +8,7 @@ use Rattle.anvil_parser.specs.Refusal.{IsAccepted}
 use Rattle.plain_file.specs.Plain.{Counter, IsPlainFile}
 use Rattle.sv_tree.specs.Module.{Module}
 use Rattle.sv_tree.specs.WellFormed.{IsWellFormed}
-use Rattle.sv_tree.specs.Text.{module_text}
+use Rattle.sv_tree.specs.Text.{IsTextOf}
 use Rattle.core_term.specs.Process.{Process}
 use Rattle.fsm_builder.specs.ModuleOf.{IsModuleOf}
 use Rattle.fsm_builder.specs.Meaning.{ShowsTheRun}
@@ -58,12 +58,8 @@ pub record AreModulesOf (bytes : List ℕ) (modules : List Module) : Type 0 wher
   pub spelled : IsFileText bytes file
   pub describe : AreModulesOfFile file modules
 
--- the texts of modules, one after the other
-abbrev pub texts_of : List Module → List ℕ
-texts_of modules = flat_map module_text modules
-
--- the text that is written for a plain file: those of such modules
+-- the text that is written for a plain file: that of such modules
 pub record IsOutput (bytes text : List ℕ) : Type 0 where
   pub modules : List Module
   pub describe : AreModulesOf bytes modules
-  pub written : text ≡ texts_of modules
+  pub of_modules : IsTextOf text modules

@@ -1,5 +1,5 @@
 -- Why a file has no modules, and the line that tells it.
-use Rattle.std.specs.Prelude.{◌≡◌, ℕ, List, ◌++◌, codes}
+use Rattle.std.specs.Prelude.{◌≡◌, ◌⊎◌, ℕ, List, ◌++◌, codes}
 use Rattle.std.specs.Fmt.{decimal}
 use Rattle.anvil_lexer.specs.declared.token.Token.{Token}
 use Rattle.anvil_lexer.specs.declared.error.LexErr.{LexErr}
@@ -66,3 +66,7 @@ pub record IsRefusalLine (bytes line : List ℕ) : Type 0 where
   pub refusal : Refusal
   pub refused : IsRefused bytes refusal
   pub is : line ≡ refusal_line refusal
+
+-- a line that may be told where bytes have the refusal: its own, or that of want of memory
+abbrev pub IsLineOf : Refusal → List ℕ → Type 0
+IsLineOf refusal line = (line ≡ refusal_line refusal) ⊎ (line ≡ no_memory_line)

@@ -3,11 +3,12 @@ ghost use Rattle.std.specs.Prelude.{◌≡◌, ◌≢◌, ◌⊎◌, ◌≤◌, 
 ghost use Rattle.std.specs.Io.KnownBytes.{Appends};
 ghost use Rattle.anvil_io.specs.Causes.{AppendsPrefix, GrewPast, Puts, Rose};
 ghost use Rattle.anvil_tree.specs.Tree.{File};
+ghost use Rattle.sv_tree.specs.Text.{modules_text};
 ghost use Rattle.plain_file.specs.Plain.{Counter, IsPlainFile};
 ghost use Rattle.anvil_tool.specs.declared.refusal.Refusal.{Refusal};
 ghost use Rattle.anvil_tool.specs.Answer.{HasNoFault, IsLine, IsTold, IsUntouched, IsWritten, LineFailed, OutFailed, read_fault_line, too_long_line};
-ghost use Rattle.anvil_tool.specs.Output.{IsFileText, IsOutput, longest_file, texts_of};
-ghost use Rattle.anvil_tool.specs.Refused.{IsRefusalLine, IsRefused, no_memory_line, refusal_line};
+ghost use Rattle.anvil_tool.specs.Output.{IsFileText, IsOutput, longest_file};
+ghost use Rattle.anvil_tool.specs.Refused.{IsLineOf, IsRefusalLine, IsRefused, no_memory_line, refusal_line};
 
 use crate::complain::{complain, complain_of, complain_refusal};
 use crate::modules::read_modules;
@@ -42,7 +43,9 @@ pub fn compile_file<S: Shelf, O: Sink, E: Sink>(
     ensures every_refusal { IfSome (S.told shelf.old file.now) (λ bytes. (refusal : Refusal) → IsRefused bytes refusal
         → length bytes ≤ longest_file → HasNoFault (S.faults shelf.old) (S.faults shelf.new)
         → ((result ≡ Status.Refused) × Appends (E.held err.old) (E.held err.new) (refusal_line refusal))
-        ⊎ (result ≡ Status.NoMemory) ⊎ (result ≡ Status.WriteFault)) }
+        ⊎ (result ≡ Status.NoMemory)
+        ⊎ ((result ≡ Status.WriteFault) × IsUntouched (O.held out.old) (O.held out.new) (O.faults out.old) (O.faults out.new)
+        × LineFailed (IsLineOf refusal) (E.held err.old) (E.held err.new) (E.faults err.old) (E.faults err.new))) }
     ensures done { result ≡ Status.Done → IsWritten (S.told shelf.old file.now) (O.held out.old) (O.held out.new) }
     ensures untouched { result ≢ Status.Done → result ≢ Status.WriteFault →
         IsUntouched (O.held out.old) (O.held out.new) (O.faults out.old) (O.faults out.new) }
@@ -83,7 +86,10 @@ fn compile<O: Sink, E: Sink>(alloc: Global, bytes: &[u8], out: &mut O, err: &mut
     ensures out_fine { result ≢ Status.WriteFault → O.faults out.new ≡ O.faults out.old }
     ensures refused { result ≡ Status.Refused → (line : List ℕ) × IsRefusalLine bytes.now line × Appends (E.held err.old) (E.held err.new) line }
     ensures every_refusal { (refusal : Refusal) → IsRefused bytes.now refusal
-        → ((result ≡ Status.Refused) × Appends (E.held err.old) (E.held err.new) (refusal_line refusal)) ⊎ (result ≡ Status.NoMemory) ⊎ (result ≡ Status.WriteFault) }
+        → ((result ≡ Status.Refused) × Appends (E.held err.old) (E.held err.new) (refusal_line refusal))
+        ⊎ (result ≡ Status.NoMemory)
+        ⊎ ((result ≡ Status.WriteFault) × IsUntouched (O.held out.old) (O.held out.new) (O.faults out.old) (O.faults out.new)
+        × LineFailed (IsLineOf refusal) (E.held err.old) (E.held err.new) (E.faults err.old) (E.faults err.new)) }
     ensures memory_line { result ≡ Status.NoMemory → Appends (E.held err.old) (E.held err.new) no_memory_line }
     ensures err_fine { result ≢ Status.WriteFault → E.faults err.new ≡ E.faults err.old }
     ensures untouched { result ≢ Status.Done → result ≢ Status.WriteFault → IsUntouched (O.held out.old) (O.held out.new) (O.faults out.old) (O.faults out.new) }
@@ -110,7 +116,7 @@ fn compile<O: Sink, E: Sink>(alloc: Global, bytes: &[u8], out: &mut O, err: &mut
 
 // The texts of modules, one after the other.
 fn put_modules<O: Sink>(modules: &[SvModule], out: &mut O) -> Result<(), SinkFault>
-    ensures { Puts (O.held out.old) (O.held out.new) (O.faults out.old) (O.faults out.new) (texts_of modules.now) result }
+    ensures { Puts (O.held out.old) (O.held out.new) (O.faults out.old) (O.faults out.new) (modules_text modules.now) result }
 {
     for module in modules {
         write_module(module, out)?;

@@ -7,7 +7,7 @@ ghost use Rattle.plain_file.specs.Plain.{Counter, IsPlainFile};
 ghost use Rattle.anvil_tool.specs.declared.refusal.Refusal.{Refusal};
 ghost use Rattle.anvil_tool.specs.Answer.{HasNoFault, IsLine, IsTold, IsUntouched, IsWritten, LineFailed, OutFailed, read_fault_line, too_long_line, usage_line};
 ghost use Rattle.anvil_tool.specs.Output.{IsFileText, longest_file};
-ghost use Rattle.anvil_tool.specs.Refused.{IsRefused, no_memory_line, refusal_line};
+ghost use Rattle.anvil_tool.specs.Refused.{IsLineOf, IsRefused, no_memory_line, refusal_line};
 ghost use Rattle.anvil_tool.specs.Words.{file_of, words_of};
 
 use crate::compile::compile_file;
@@ -55,7 +55,9 @@ pub fn run_tool<S: Shelf, O: Sink, E: Sink>(
         (refusal : Refusal) → IsRefused bytes refusal
         → length bytes ≤ longest_file → HasNoFault (S.faults shelf.old) (S.faults shelf.new)
         → ((result ≡ Status.Refused) × Appends (E.held err.old) (E.held err.new) (refusal_line refusal))
-        ⊎ (result ≡ Status.NoMemory) ⊎ (result ≡ Status.WriteFault))) }
+        ⊎ (result ≡ Status.NoMemory)
+        ⊎ ((result ≡ Status.WriteFault) × IsUntouched (O.held out.old) (O.held out.new) (O.faults out.old) (O.faults out.new)
+        × LineFailed (IsLineOf refusal) (E.held err.old) (E.held err.new) (E.faults err.old) (E.faults err.new)))) }
 
     // What stands on `out`.
     ensures done { result ≡ Status.Done → IfSome (file_of (words_of words.now)) (λ file.
