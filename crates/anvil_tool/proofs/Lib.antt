@@ -5,3 +5,5 @@ pub mod Described
 pub mod Refusals
 -- The text of the modules.
 pub mod Written
+-- Examples.
+pub mod Examples

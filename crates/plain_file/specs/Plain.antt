@@ -3,8 +3,8 @@
 -- It has no class and any number of counting processes, also none, whose names differ. A counting process has no endpoints,
 -- one register without a reset literal, and one thread, which adds a constant to the register and then waits:
 -- `proc P() { reg R : logic[W]; loop { set R := *R + W'dL >> cycle N } }`. Nothing is asked of places, so layout, comments,
--- parentheses and the base of the literal are free: the tree has none of them. A sum in which the literal stands first, or
--- whose wait is one of several acts, is no plain one, though it would count just so.
+-- parentheses and the base of the literal are free: the tree has none of them. A process whose literal stands first, or whose
+-- acts stand in a block, is none, though it would count just so.
 use Rattle.std.specs.Prelude.{◌≡◌, ◌≢◌, ⊤, ℕ, ◌^◌, ◌<◌, ◌≤◌, IsTrue, List, [], ◌∷◌, length, None}
 use Rattle.std.specs.List.{AllByRecursion}
 use Rattle.anvil_lexer.specs.GoodName.{is_good_name}
@@ -20,7 +20,7 @@ pub record Counter : Type 0 where
   pub addend : ℕ
   pub cycles : ℕ
 
--- a good name of at most 64 bytes: no word of the language can stand for one, since none is a name in a tree
+-- a good name of at most 64 bytes; a keyword is none, since no tree has one for a name
 pub record IsPlainName (name : Name) : Type 0 where
   pub few : length name ≤ 64
   pub good : IsTrue (is_good_name name)
