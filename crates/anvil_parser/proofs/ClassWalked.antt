@@ -17,7 +17,7 @@ use Rattle.anvil_parser.specs.Begun.{Begin}
 use Rattle.anvil_parser.specs.Limits.{first_begins, begun_in_messages, begun_in_class}
 use Rattle.anvil_parser.specs.Position.{Label, Width, logic_wanted, message_name, message_width, message_at, message_life, message_closing, ClassDraft, ClassPosition, first_message, in_message, after_message, after_comma, between, in_class, start}
 use Rattle.anvil_parser.specs.Step.{begins, labelled, message_of, class_of_draft, with_message, class_step, class_step_by, Walk, walk}
-use Rattle.anvil_parser.proofs.Nodes.{begin}
+use Rattle.anvil_parser.proofs.ExprNodes.{begin}
 use Rattle.anvil_parser.proofs.Reading.{Comes, stays, on, step_to, move_to, on_to, as_begun}
 
 -- where a message may begin

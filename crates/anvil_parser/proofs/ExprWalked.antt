@@ -20,7 +20,7 @@ use Rattle.anvil_parser.specs.Step.{word_step, operand_ends, Walk}
 use Rattle.anvil_parser.proofs.TakenFirst.{Waits, opens_slice, joining_strength, joins, unsettled, operator_taken, right_taken, choice_ends}
 use Rattle.anvil_parser.proofs.Levels.{level_strength, Stops, stops_at, stops_stronger, stops_before, stops_before_further, WaitsAt, operand_waits, operating_waits, open_waits, TakesBefore, takes_before}
 use Rattle.anvil_parser.proofs.OperandFirst.{BeginsOperand, expr_begins, group_step, function_step_taken}
-use Rattle.anvil_parser.proofs.Nodes.{node_at, nodes_joined, nodes_called, nodes_chosen}
+use Rattle.anvil_parser.proofs.ExprNodes.{node_at, nodes_joined, nodes_called, nodes_chosen}
 use Rattle.anvil_parser.proofs.Reading.{Comes, stays, on, step_to, move_to, on_to, as_begun, reading}
 
 module _ (items : File) (draft : ProcessDraft) where

@@ -3,11 +3,10 @@ pub mod Closed
 pub mod InOrder
 -- Reading lists of tokens, one after the other.
 pub mod WalkJoined
-pub mod WalkOn
 -- What the grammar calls a file is walked to its end: expressions, acts and terms, the other parts, files.
 pub mod TakenFirst
 pub mod Levels
-pub mod Nodes
+pub mod ExprNodes
 pub mod OperandFirst
 pub mod Reading
 pub mod ExprWalked

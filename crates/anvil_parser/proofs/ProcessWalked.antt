@@ -17,7 +17,7 @@ use Rattle.anvil_parser.specs.Begun.{Begin}
 use Rattle.anvil_parser.specs.Limits.{first_begins, begun_in_endpoints, begun_in_ports, begun_in_registers, begun_in_threads, begun_in_process}
 use Rattle.anvil_parser.specs.Position.{Label, Width, logic_wanted, register_width, register_reset, register_end, ProcessDraft, ProcessPosition, first_endpoint, next_endpoint, after_endpoint, body_opening, registers_wanted, in_register, threads_wanted, thread_opening, in_thread, term_wanted, between, in_process, start}
 use Rattle.anvil_parser.specs.Step.{finished, begins, labelled, register_of, process_of_draft, empty_draft, with_endpoint, with_register, with_thread, begins_endpoint, process_step, at_position, Walk, walk}
-use Rattle.anvil_parser.proofs.Nodes.{begin}
+use Rattle.anvil_parser.proofs.ExprNodes.{begin}
 use Rattle.anvil_parser.proofs.Reading.{Comes, stays, on, step_to, move_to, on_to, as_begun}
 use Rattle.anvil_parser.proofs.TermWalked.{term_walked}
 

@@ -1,13 +1,16 @@
 -- Reading in a thread: the reading of a file, from a position in some thread of some process. Most lemmas say that reading from
 -- here comes to reading from there, behind the things that begin between.
-use Rattle.std.proofs.Common.{◌≡◌, List, [], ◌∷◌, ◌++◌, refl, subst}
+use Rattle.std.proofs.Common.{◌≡◌, List, [], ◌∷◌, ◌++◌, refl, subst, append_assoc}
 use Rattle.anvil_lexer.specs.declared.token.Token.{Token}
 use Rattle.anvil_tree.specs.Tree as tree
 use Rattle.anvil_tree.specs.Tree.{Expr, File}
 use Rattle.anvil_parser.specs.Begun.{Begin}
 use Rattle.anvil_parser.specs.Position.{Frame, ThreadPosition, ProcessDraft, in_process, in_thread, between, threads_wanted}
 use Rattle.anvil_parser.specs.Step.{within, quietly, Threaded, at_position, with_thread, Walk, behind, walk_on, walk}
-use Rattle.anvil_parser.proofs.WalkOn.{behind_behind}
+
+-- what begins first and then, ahead of a reading
+behind_behind : (first then : List Begin) (after : Walk) → behind first (behind then after) ≡ behind (first ++ then) after
+behind_behind first then after = rw (append_assoc first then after.begun) refl
 
 -- one reading comes to another behind the things that begin between
 pub record Comes (here : Walk) (begun : List Begin) (there : Walk) : Type 0 where

@@ -17,7 +17,7 @@ use Rattle.anvil_parser.specs.Limits.{first_begins, nodes, begun_in_act, begun_i
 use Rattle.anvil_parser.specs.Position.{Label, Frame, setting, sending, deciding, evaluating, following, besides, first_side, second_side, blocking, binding, ThreadPosition, term_wanted, act_wanted, after_act, after_first, operand_wanted, after_operand, ProcessDraft, start}
 use Rattle.anvil_parser.specs.Step.{operand_step, term_ends, begin_step, term_step, Walk, behind, walk, labelled}
 use Rattle.anvil_parser.proofs.Levels.{stops_at}
-use Rattle.anvil_parser.proofs.Nodes.{begin}
+use Rattle.anvil_parser.proofs.ExprNodes.{begin}
 use Rattle.anvil_parser.proofs.OperandFirst.{starts_operand, BeginsOperand, expr_begins}
 use Rattle.anvil_parser.proofs.Reading.{step_to, move_to, Comes, on, on_to, as_begun, reading, reading_on}
 use Rattle.anvil_parser.proofs.ExprWalked.{expr_walked}

@@ -9,7 +9,7 @@ ghost use Rattle.anvil_parser.specs.SeenThread.{is_link, joined_step, link_frame
 
 use crate::error::ParseErr;
 use crate::expect::expect;
-use crate::expr::binary;
+use crate::nodes::binary;
 use crate::room::{boxed, boxed_pair};
 use crate::stack::{Frame, Joint, Link, OperandFrame, Stack, TermFrame, ValueFrame};
 use crate::step::{Begun, Step};

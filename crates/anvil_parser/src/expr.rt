@@ -12,8 +12,8 @@ ghost use Rattle.anvil_parser.specs.SeenThread.{acted, expr_position_of, operand
 use crate::act::expression_step;
 use crate::error::{Counted, ParseErr};
 use crate::expect::{expect, is_mark, word};
+use crate::nodes::{binary, choice, inverse};
 use crate::operator::{function_at, operator_at, strength};
-use crate::room::{boxed, boxed_pair};
 use crate::stack::{Frame, OperandFrame, Stack};
 use crate::step::{Begin, Begun};
 use crate::thread::{
@@ -22,79 +22,6 @@ use crate::thread::{
 use anvil_lexer::{Mark, Name, Token, TokenKind};
 use anvil_tree::{BinOp, Expr, ExprKind};
 use std::alloc::Global;
-
-// `~e`
-fn inverse(alloc: Global, at: u32, operand: Expr) -> Result<Expr, ParseErr>
-    ensures { MatchResult result (λ expr. expr_of expr ≡ tree.inverse at (expr_of operand)) (λ fault. fault ≡ ParseErr.NoMemory) }
-{
-    match boxed(alloc, operand) {
-        Ok(operand) => Ok(Expr {
-            at,
-            kind: ExprKind::Not(operand),
-        }),
-        Err(fault) => Err(fault),
-    }
-}
-
-/// Two operands with their operator.
-pub fn binary(
-    alloc: Global,
-    at: u32,
-    operator: BinOp,
-    first: Expr,
-    second: Expr,
-) -> Result<Expr, ParseErr>
-    ensures { MatchResult result
-        (λ expr. expr_of expr ≡ tree.binary at operator (expr_of first) (expr_of second))
-        (λ fault. fault ≡ ParseErr.NoMemory) }
-{
-    match boxed_pair(alloc, first, second) {
-        Ok((first, second)) => Ok(Expr {
-            at,
-            kind: ExprKind::Bin(operator, first, second),
-        }),
-        Err(fault) => Err(fault),
-    }
-}
-
-// `c ? a : b`
-fn choice(
-    alloc: Global,
-    at: u32,
-    condition: Expr,
-    first: Expr,
-    second: Expr,
-) -> Result<Expr, ParseErr>
-    ensures { MatchResult result
-        (λ expr. expr_of expr ≡ tree.choice at (expr_of condition) (expr_of first) (expr_of second))
-        (λ fault. fault ≡ ParseErr.NoMemory) }
-{
-    match boxed_pair(alloc, first, second) {
-        Ok((first, second)) => chosen(alloc, at, condition, first, second),
-        Err(fault) => Err(fault),
-    }
-}
-
-// The same where what is chosen lies in boxes.
-fn chosen(
-    alloc: Global,
-    at: u32,
-    condition: Expr,
-    first: Box<Expr>,
-    second: Box<Expr>,
-) -> Result<Expr, ParseErr>
-    ensures { MatchResult result
-        (λ expr. expr_of expr ≡ tree.choice at (expr_of condition) (expr_of first.value) (expr_of second.value))
-        (λ fault. fault ≡ ParseErr.NoMemory) }
-{
-    match boxed(alloc, condition) {
-        Ok(condition) => Ok(Expr {
-            at,
-            kind: ExprKind::Choose(condition, first, second),
-        }),
-        Err(fault) => Err(fault),
-    }
-}
 
 // The operand, as a frame takes it.
 fn taken(alloc: Global, frame: OperandFrame, operand: Expr) -> Result<Expr, ParseErr>

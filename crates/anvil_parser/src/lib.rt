@@ -1,7 +1,7 @@
 //! The grammar of a source file: which lists of tokens are a file, which tree the file is, and why a list of tokens is none.
 //!
 //! `parse` goes over the tokens once. `position` says where the reading of a file stands between two tokens; `class`, `process`,
-//! `endpoint`, `register` and `width` read the parts that follow one another, `begin`, `act` and `expr` those that lie in one another,
+//! `endpoint`, `register` and `width` read the parts that follow one another, `begin`, `inside`, `act` and `expr` those that lie in one another,
 //! which wait in the frames of a `stack`; `counts` keeps the limits.
 #![tactic(auto)]
 
@@ -13,7 +13,9 @@ mod endpoint;
 mod error;
 mod expect;
 mod expr;
+mod inside;
 mod laws;
+mod nodes;
 mod operator;
 mod parser;
 mod position;
