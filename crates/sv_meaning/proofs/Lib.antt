@@ -1,0 +1,5 @@
+mod Cells
+mod Nets
+mod Places
+mod Seen
+mod Moves

@@ -1,0 +1,16 @@
+use Rattle.std.proofs.Common.{◌≡◌, subst}
+use Rattle.std.specs.Prelude.{Some}
+use Rattle.core_term.specs.Rows.{nth_cell}
+use Rattle.sv_meaning.proofs.Cells.{sent_cell, sent_cell_within}
+use Rattle.sv_meaning.proofs.cycle.Cycle.ack.Goals as goal
+
+pub cell-requires : goal.cell-requires
+cell-requires c = sent_cell_within _ _ c.requires.cycle.0 c.args.port c.requires.sent
+
+pub unreachable-requires : goal.unreachable-requires
+unreachable-requires c = sent_cell _ _ c.args.port _ _ c.requires.cycle.0 c.requires.sent c.cell.ensures c.in-Received.is
+
+pub returns : goal.returns
+returns c =
+    let there = subst (λ cell. nth_cell c.args.self.now.cells.now c.args.port ≡ Some cell) c.in-Sent.is c.cell.ensures in
+    rw there c.bit.ensures
