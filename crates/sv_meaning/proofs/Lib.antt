@@ -1,3 +1,4 @@
+pub mod Exact
 mod Cells
 mod Nets
 mod Places
