@@ -29,7 +29,7 @@ nth_cell_at (cell ∷ cells) (suc k) d inside =
 pub data_read :
     (cells : List InCell) (k width : ℕ) (valid : Bool) (v : Number)
     → nth_cell cells k ≡ Some (incoming.Received valid v) → v.width ≡ width → v ≡ number_of width (data_in (nth_cell cells k))
-data_read cells k width valid v there wide = rw there (subst (λ w. v ≡ number_of w v.value) wide refl)
+data_read cells k width valid v there wide = rw there (subst (λ bits. v ≡ number_of bits v.value) wide refl)
 
 received_fits : (port : SvPort) (cell : InCell) → IsTrue (cell_fits (port_of port) cell) → port.received ≡ true → IsReceivedOf port.width cell
 received_fits port (incoming.Received valid v) fits received = eqb-true _ _ (and_parts _ _ fits).1
@@ -58,7 +58,7 @@ ReceivesOf width (Some cell) = IsReceivedOf width cell
 
 receives :
     (ports : List SvPort) (cells : List InCell) → IsTrue (cells_fit (map port_of ports) cells)
-    → (k : ℕ) → is_received (slice_get ports k) ≡ true → ReceivesOf (slice_index (map (λ p. p.width) ports) k) (nth_cell cells k)
+    → (k : ℕ) → is_received (slice_get ports k) ≡ true → ReceivesOf (slice_index (map (λ port. port.width) ports) k) (nth_cell cells k)
 receives [] cells fits k received = absurd (false≢true received)
 receives (port ∷ ports) [] fits k received = absurd (false≢true fits)
 receives (port ∷ ports) (cell ∷ cells) fits zero received = received_fits port cell (and_parts _ _ fits).0 received
@@ -67,9 +67,9 @@ receives (port ∷ ports) (cell ∷ cells) fits (suc k) received = receives port
 pub received_cell :
     (ports : List SvPort) (cells : List InCell) (k : ℕ) (read cell : InCell) → IsTrue (cells_fit (map port_of ports) cells)
     → is_received (slice_get ports k) ≡ true → nth_cell cells k ≡ Some read → read ≡ cell
-    → IsReceivedOf (slice_index (map (λ p. p.width) ports) k) cell
+    → IsReceivedOf (slice_index (map (λ port. port.width) ports) k) cell
 received_cell ports cells k read cell fits received there is =
-    let width = slice_index (map (λ p. p.width) ports) k in
+    let width = slice_index (map (λ port. port.width) ports) k in
     subst (IsReceivedOf width) is (subst (ReceivesOf width) there (receives ports cells fits k received))
 
 pub sent_cell_within :

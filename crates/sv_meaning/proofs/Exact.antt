@@ -1,5 +1,5 @@
 -- What `StandsAfter` says at the inputs that the rows are: the registers of one run, so of one machine.
-use Rattle.std.proofs.Common.{◌≡◌, ℕ, List, length, refl, sym, subst}
+use Rattle.std.proofs.Common.{◌≡◌, List, length, refl, sym, subst}
 use Rattle.core_term.specs.declared.rows.Row.{Row}
 use Rattle.core_term.specs.Rows.{inputs_of}
 use Rattle.sv_tree.specs.Clocked.{registers_at}

@@ -36,7 +36,7 @@ width_given tree width x fits =
 -- the numbers that the registers take have their widths
 pub nexts_wide :
     (now : Cycle) (nets : List Number) (regs : List SvReg) (xs : List SvOperand) → nexts_fit now.module.now regs xs ≡ true
-    → widths (map (operand_in now nets) xs) ≡ map (λ r. r.width) regs
+    → widths (map (operand_in now nets) xs) ≡ map (λ reg. reg.width) regs
 nexts_wide now nets [] [] fits = refl
 nexts_wide now nets [] (x ∷ xs) fits = absurd (false≢true fits)
 nexts_wide now nets (reg ∷ regs) [] fits = absurd (false≢true fits)
@@ -46,21 +46,21 @@ nexts_wide now nets (reg ∷ regs) (x ∷ xs) fits =
 
 pub registers_count : (tree : Module) (numbers : List Number) → AreRegisters tree numbers → length numbers ≡ length tree.regs
 registers_count tree numbers wide =
-    let left = length-map numbers (λ n. n.width) in
-    let right = length-map tree.regs (λ r. r.width) in
-    let same = ap (λ ws. length ws) wide in
+    let left = length-map numbers (λ number. number.width) in
+    let right = length-map tree.regs (λ reg. reg.width) in
+    let same = ap (λ list. length list) wide in
     omega (arith, left, right, same)
 
 -- the resets have the widths of their registers
-pub resets_wide : (regs : List SvReg) → list_all reset_fits regs ≡ true → widths (map (λ r. r.reset) regs) ≡ map (λ r. r.width) regs
+pub resets_wide : (regs : List SvReg) → list_all reset_fits regs ≡ true → widths (map (λ reg. reg.reset) regs) ≡ map (λ reg. reg.width) regs
 resets_wide [] fits = refl
 resets_wide (reg ∷ regs) fits =
     let parts = and_parts (reset_fits reg) (list_all reset_fits regs) fits in
     let width : reg.reset.width ≡ reg.width = eqb-true reg.reset.width reg.width (and_parts (is_number reg.reset) (reg.reset.width == reg.width) parts.0).1 in
     rw width (rw (resets_wide regs parts.1) refl)
 
-pub resets_shown : (tree : Module) → values (map (λ r. r.reset) tree.regs) ≡ reset_values tree
-resets_shown tree = map-map (λ n. n.value) (λ r. r.reset) tree.regs
+pub resets_shown : (tree : Module) → values (map (λ reg. reg.reset) tree.regs) ≡ reset_values tree
+resets_shown tree = map-map (λ number. number.value) (λ reg. reg.reset) tree.regs
 
 -- A cycle with all nets valued, in which what comes in is what comes in in a cycle of the inputs.
 module _ (now : Cycle) (nets : List Number) (inputs : Inputs) (cycle : ℕ)
@@ -69,7 +69,7 @@ module _ (now : Cycle) (nets : List Number) (inputs : Inputs) (cycle : ℕ)
   operand_shown : (x : SvOperand) → (operand_in now nets x).value ≡ settled_value now.module.now inputs cycle (values now.registers.now) x
   operand_shown x =
       let same = settled_same now.module.now inputs cycle now.cells.now shows (values now.registers.now) x in
-      subst (λ ns. operand_value (in_cells now.cells.now) 0 (values now.registers.now) ns x ≡ settled_value now.module.now inputs cycle (values now.registers.now) x)
+      subst (λ list. operand_value (in_cells now.cells.now) 0 (values now.registers.now) list x ≡ settled_value now.module.now inputs cycle (values now.registers.now) x)
       (sym valued) (sym same)
 
   pub nexts_shown :
@@ -80,7 +80,7 @@ module _ (now : Cycle) (nets : List Number) (inputs : Inputs) (cycle : ℕ)
   out_shown :
       (port : SvPort) (out : SvOut) → out_fits now.module.now port out ≡ true
       → out_in now nets out ≡ cell_of port (output_value now.module.now inputs cycle (values now.registers.now) out)
-  out_shown port (Received ack) fits = ap (λ v. outgoing.Received (v == 1)) (operand_shown ack)
+  out_shown port (Received ack) fits = ap (λ given. outgoing.Received (given == 1)) (operand_shown ack)
   out_shown port (Sent value valid) fits =
       let front = and_parts (not port.received && gives now.module.now port.width value) (gives now.module.now 1 valid) fits in
       let wide = width_given now.module.now port.width value (and_parts (not port.received) (gives now.module.now port.width value) front.0).1 in
@@ -121,18 +121,18 @@ state_parts :
 state_parts first (Source name) names states = absurd (false≢true states)
 state_parts first (StateName number) names states = (refl, (and_parts (number == first) (are_states_from (first + 1) names) states).1)
 
-no_sources : (first : ℕ) (regs : List SvReg) → are_states_from first (map (λ r. r.name) regs) ≡ true → source_count regs ≡ 0
+no_sources : (first : ℕ) (regs : List SvReg) → are_states_from first (map (λ reg. reg.name) regs) ≡ true → source_count regs ≡ 0
 no_sources first [] states = refl
 no_sources first (reg ∷ regs) states =
-    let parts = state_parts first reg.name (map (λ r. r.name) regs) states in
+    let parts = state_parts first reg.name (map (λ reg. reg.name) regs) states in
     rw parts.0 (no_sources (first + 1) regs parts.1)
 
 no_sources_shown :
-    (first : ℕ) (regs : List SvReg) (values : List ℕ) → are_states_from first (map (λ r. r.name) regs) ≡ true → sources_of regs values ≡ []
+    (first : ℕ) (regs : List SvReg) (values : List ℕ) → are_states_from first (map (λ reg. reg.name) regs) ≡ true → sources_of regs values ≡ []
 no_sources_shown first [] values states = refl
 no_sources_shown first (reg ∷ regs) [] states = refl
 no_sources_shown first (reg ∷ regs) (value ∷ values) states =
-    let parts = state_parts first reg.name (map (λ r. r.name) regs) states in
+    let parts = state_parts first reg.name (map (λ reg. reg.name) regs) states in
     rw parts.0 (no_sources_shown (first + 1) regs values parts.1)
 
 order_parts :
@@ -142,20 +142,20 @@ order_parts (Source name) names ordered = inl (refl, ordered)
 order_parts (StateName number) names ordered = inr (state_parts 0 (StateName number) names ordered)
 
 pub first_are_sources :
-    (regs : List SvReg) (numbers : List Number) → sources_then_states (map (λ r. r.name) regs) ≡ true → widths numbers ≡ map (λ r. r.width) regs
+    (regs : List SvReg) (numbers : List Number) → sources_then_states (map (λ reg. reg.name) regs) ≡ true → widths numbers ≡ map (λ reg. reg.width) regs
     → take (source_count regs) numbers ≡ sources_of regs (values numbers)
 first_are_sources [] numbers ordered wide = refl
 first_are_sources (reg ∷ regs) [] ordered wide =
-    let short : 0 ≡ suc (length (map (λ r. r.width) regs)) = ap (λ ws. length ws) wide in
+    let short : 0 ≡ suc (length (map (λ reg. reg.width) regs)) = ap (λ list. length list) wide in
     absurd (omega (arith, short))
 first_are_sources (reg ∷ regs) (number ∷ numbers) ordered wide =
-    let width : number.width ≡ reg.width = ap (λ ws. slice_index ws 0) wide in
-    let rest : widths numbers ≡ map (λ r. r.width) regs = ap (λ ws. drop 1 ws) wide in
-    elim (order_parts reg.name (map (λ r. r.name) regs) ordered) [
+    let width : number.width ≡ reg.width = ap (λ list. slice_index list 0) wide in
+    let rest : widths numbers ≡ map (λ reg. reg.width) regs = ap (λ list. drop 1 list) wide in
+    elim (order_parts reg.name (map (λ reg. reg.name) regs) ordered) [
       | inl source ↦
-          let shown : number ≡ number_of reg.width number.value = subst (λ w. number ≡ number_of w number.value) width refl in
+          let shown : number ≡ number_of reg.width number.value = subst (λ bits. number ≡ number_of bits number.value) width refl in
           let more : take (source_count regs) numbers ≡ sources_of regs (values numbers) = first_are_sources regs numbers source.1 rest in
-          rw source.0 (subst (λ n. number ∷ take (source_count regs) numbers ≡ n ∷ sources_of regs (values numbers)) shown (rw more refl))
+          rw source.0 (subst (λ head. number ∷ take (source_count regs) numbers ≡ head ∷ sources_of regs (values numbers)) shown (rw more refl))
       | inr states ↦
           let none : source_count regs ≡ 0 = no_sources 1 regs states.1 in
           rw states.0 (rw none (rw (no_sources_shown 1 regs (values numbers) states.1) refl))
@@ -170,14 +170,14 @@ module _ (machine : State) (now : Cycle) (nets : List Number) (row : Row)
     (rows : List Row) (stands : StandsAfter rows machine)
     (inputs : Inputs) (begins : BeginsWith inputs (rows ++ row ∷ [])) where
   tree_seen : machine.tree ≡ now.module.now
-  tree_seen = ap (λ m. m.tree) seen
+  tree_seen = ap (λ machine. machine.tree) seen
 
   last : Shows inputs (length rows) now.cells.now
-  last = subst (λ cs. Shows inputs (length rows) cs) (sym cells) (last_shows inputs rows row begins)
+  last = subst (λ incoming. Shows inputs (length rows) incoming) (sym cells) (last_shows inputs rows row begins)
 
   registers_before : values now.registers.now ≡ registers_at now.module.now inputs (length rows)
   registers_before =
-      subst (λ m. m.registers ≡ registers_at m.tree inputs (length rows)) seen (stands inputs (begins_before inputs rows row begins))
+      subst (λ machine. machine.registers ≡ registers_at machine.tree inputs (length rows)) seen (stands inputs (begins_before inputs rows row begins))
 
   pub outs_of_step : map (out_in now nets) now.module.now.outs ≡ cells_of machine.tree.ports (outputs_at machine.tree inputs (length rows))
   outs_of_step =
@@ -190,7 +190,7 @@ module _ (machine : State) (now : Cycle) (nets : List Number) (row : Row)
       rw (longer rows row) (rw (next_cycle now.module.now inputs (length rows)) (rw registers_before at shown))
 
   pub sources_of_step :
-      widths now.registers.now ≡ map (λ r. r.width) now.module.now.regs
+      widths now.registers.now ≡ map (λ reg. reg.width) now.module.now.regs
       → take (source_count machine.tree.regs) now.registers.now ≡ sources_of machine.tree.regs (registers_at machine.tree inputs (length rows))
   sources_of_step wide =
       let shown = first_are_sources now.module.now.regs now.registers.now (points_of now.module.now holds).order wide in
@@ -198,11 +198,11 @@ module _ (machine : State) (now : Cycle) (nets : List Number) (row : Row)
 
 -- what a `Vec` holds after all its places were written
 pub written_back : {X : Type 0} (items before target : List X) (count : ℕ) → length items ≡ count → items ≡ target → take count (items ++ drop (length items) before) ≡ target
-written_back items before target count same is = subst (λ xs. xs ≡ target) (sym (take_at items (drop (length items) before) count same)) is
+written_back items before target count same is = subst (λ list. list ≡ target) (sym (take_at items (drop (length items) before) count same)) is
 
 pub written_length :
     {X : Type 0} (items before : List X) (count target : ℕ) → length items ≡ count → count ≡ target
     → length (take count (items ++ drop (length items) before)) ≡ target
 written_length items before count target same is =
     let long : length items ≡ target = omega (arith, same, is) in
-    subst (λ xs. length xs ≡ target) (sym (take_at items (drop (length items) before) count same)) long
+    subst (λ list. length list ≡ target) (sym (take_at items (drop (length items) before) count same)) long

@@ -31,21 +31,21 @@ pub number_read :
     → read ≡ number_of width (slice_index (values numbers) k)
 number_read numbers k width read inside is wide =
     let value : slice_index (values numbers) k ≡ read.value =
-    subst (λ n. slice_index (values numbers) k ≡ n.value) (sym is) (value_at numbers k read inside) in
+    subst (λ number. slice_index (values numbers) k ≡ number.value) (sym is) (value_at numbers k read inside) in
     let same : slice_index (widths numbers) k ≡ read.width =
-    subst (λ n. slice_index (widths numbers) k ≡ n.width) (sym is) (width_at numbers k read inside) in
-    let mine : read.width ≡ width = subst (λ w. w ≡ width) same wide in
-    rw value (subst (λ w. read ≡ number_of w read.value) mine refl)
+    subst (λ number. slice_index (widths numbers) k ≡ number.width) (sym is) (width_at numbers k read inside) in
+    let mine : read.width ≡ width = subst (λ bits. bits ≡ width) same wide in
+    rw value (subst (λ bits. read ≡ number_of bits read.value) mine refl)
 
 pub net_read :
     (nets : List SvNet) (numbers : List Number) (k : ℕ) (read : Number)
-    → widths numbers ≡ map (λ n. n.width) (take (length numbers) nets) → IsTrue (nat_lt k (length numbers)) → read ≡ get_or numbers k read
-    → read ≡ number_of (slice_index (map (λ n. n.width) nets) k) (slice_index (values numbers) k)
+    → widths numbers ≡ map (λ net. net.width) (take (length numbers) nets) → IsTrue (nat_lt k (length numbers)) → read ≡ get_or numbers k read
+    → read ≡ number_of (slice_index (map (λ net. net.width) nets) k) (slice_index (values numbers) k)
 net_read nets numbers k read wide stands is =
     let inside : k < length numbers = ltb-true k (length numbers) stands in
-    let taken : widths numbers ≡ take (length numbers) (map (λ n. n.width) nets) = rw wide (sym (take-map (λ n. n.width) (length numbers) nets)) in
-    let width : slice_index (widths numbers) k ≡ slice_index (map (λ n. n.width) nets) k =
-    subst (λ ws. slice_index ws k ≡ slice_index (map (λ n. n.width) nets) k) (sym taken) (get_or-take (length numbers) (map (λ n. n.width) nets) k 0 inside) in
+    let taken : widths numbers ≡ take (length numbers) (map (λ net. net.width) nets) = rw wide (sym (take-map (λ net. net.width) (length numbers) nets)) in
+    let width : slice_index (widths numbers) k ≡ slice_index (map (λ net. net.width) nets) k =
+    subst (λ list. slice_index list k ≡ slice_index (map (λ net. net.width) nets) k) (sym taken) (get_or-take (length numbers) (map (λ net. net.width) nets) k 0 inside) in
     number_read numbers k _ read inside is width
 
 -- one net more at the end
@@ -62,18 +62,18 @@ pub net_pushed :
     (tree : Module) (inputs : Inputs) (cycle : ℕ) (registers : List ℕ) (nets : List SvNet) (k : ℕ) (net : SvNet) (before after : List Number) (number : Number)
     → k < length nets → net ≡ get_or nets k net → after ≡ before ++ number ∷ []
     → values before ≡ net_values_after tree inputs cycle registers [] (take k nets)
-    → widths before ≡ map (λ n. n.width) (take k nets)
+    → widths before ≡ map (λ net. net.width) (take k nets)
     → number ≡ number_of net.width (operation_value tree inputs cycle registers (values before) net.width net.op)
-    → (values after ≡ net_values_after tree inputs cycle registers [] (take (k + 1) nets)) × (widths after ≡ map (λ n. n.width) (take (k + 1) nets))
+    → (values after ≡ net_values_after tree inputs cycle registers [] (take (k + 1) nets)) × (widths after ≡ map (λ net. net.width) (take (k + 1) nets))
 net_pushed tree inputs cycle registers nets k net before after number inside there pushed valued wide is =
     let more : take (k + 1) nets ≡ take k nets ++ net ∷ [] =
-    subst (λ n. take (k + 1) nets ≡ take k nets ++ n ∷ []) (sym there) (take_more nets k net inside) in
-    let values_more : values (before ++ number ∷ []) ≡ values before ++ number.value ∷ [] = map-append (λ n. n.value) before (number ∷ []) in
-    let widths_more : widths (before ++ number ∷ []) ≡ widths before ++ number.width ∷ [] = map-append (λ n. n.width) before (number ∷ []) in
-    let nets_more : map (λ n. n.width) (take k nets ++ net ∷ []) ≡ map (λ n. n.width) (take k nets) ++ net.width ∷ [] =
-    map-append (λ n. n.width) (take k nets) (net ∷ []) in
-    let value : number.value ≡ operation_value tree inputs cycle registers (values before) net.width net.op = ap (λ n. n.value) is in
-    let width : number.width ≡ net.width = ap (λ n. n.width) is in
+    subst (λ last. take (k + 1) nets ≡ take k nets ++ last ∷ []) (sym there) (take_more nets k net inside) in
+    let values_more : values (before ++ number ∷ []) ≡ values before ++ number.value ∷ [] = map-append (λ number. number.value) before (number ∷ []) in
+    let widths_more : widths (before ++ number ∷ []) ≡ widths before ++ number.width ∷ [] = map-append (λ net. net.width) before (number ∷ []) in
+    let nets_more : map (λ net. net.width) (take k nets ++ net ∷ []) ≡ map (λ net. net.width) (take k nets) ++ net.width ∷ [] =
+    map-append (λ net. net.width) (take k nets) (net ∷ []) in
+    let value : number.value ≡ operation_value tree inputs cycle registers (values before) net.width net.op = ap (λ number. number.value) is in
+    let width : number.width ≡ net.width = ap (λ net. net.width) is in
     let push = net_values_push tree inputs cycle registers [] (take k nets) net in (
       rw pushed (rw values_more (rw value (rw more (rw push (rw valued refl))))),
       rw pushed (rw widths_more (rw width (rw more (rw nets_more (rw wide refl))))),

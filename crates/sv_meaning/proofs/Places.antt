@@ -26,23 +26,23 @@ module _ (tree : Module) (holds : IsWellFormed tree) where
   pub net_width_at :
       (nets : List SvNet) → nets ≡ tree.nets → (k : ℕ) (net : SvNet) → k < length nets → net ≡ get_or nets k net → net.width ≤ widest
   net_width_at nets is k net inside there =
-      let within : k < length tree.nets = subst (λ ns. k < length ns) is inside in
-      let read : net ≡ get_or tree.nets k net = subst (λ ns. net ≡ get_or ns k net) is there in
-      subst (λ n. n.width ≤ widest) (sym read) (net_width_within tree holds k net within).1
+      let within : k < length tree.nets = subst (λ list. k < length list) is inside in
+      let read : net ≡ get_or tree.nets k net = subst (λ list. net ≡ get_or list k net) is there in
+      subst (λ net. net.width ≤ widest) (sym read) (net_width_within tree holds k net within).1
 
   pub net_fits_at :
       (nets : List SvNet) → nets ≡ tree.nets
       → (known k : ℕ) (net : SvNet) → known ≡ k → k < length nets → net ≡ get_or nets k net → IsTrue (op_fits tree known net.width net.op)
   net_fits_at nets is known k net same inside there =
-      let within : k < length tree.nets = subst (λ ns. k < length ns) is inside in
-      let read : net ≡ get_or tree.nets k net = subst (λ ns. net ≡ get_or ns k net) is there in
-      rw same (subst (λ n. IsTrue (op_fits tree k n.width n.op)) (sym read) (net_fits tree holds k net within))
+      let within : k < length tree.nets = subst (λ list. k < length list) is inside in
+      let read : net ≡ get_or tree.nets k net = subst (λ list. net ≡ get_or list k net) is there in
+      rw same (subst (λ net. IsTrue (op_fits tree k net.width net.op)) (sym read) (net_fits tree holds k net within))
 
   pub all_nets_count : (numbers : List Number) → AreAllNets tree numbers → length numbers ≡ length tree.nets
   all_nets_count numbers wide =
-      let left = length-map numbers (λ n. n.width) in
-      let right = length-map tree.nets (λ n. n.width) in
-      let same = ap (λ ws. length ws) wide in
+      let left = length-map numbers (λ number. number.width) in
+      let right = length-map tree.nets (λ number. number.width) in
+      let same = ap (λ list. length list) wide in
       omega (arith, left, right, same)
 
   pub next_stands_at :
@@ -51,10 +51,10 @@ module _ (tree : Module) (holds : IsWellFormed tree) where
       → (k : ℕ) (next : SvOperand) → k < length nexts → next ≡ get_or nexts k next → IsTrue (operand_stands tree (length numbers) next)
   next_stands_at nexts is numbers wide k next inside there =
       let count : length tree.nexts ≡ length tree.regs = next_count tree holds in
-      let within : k < length tree.nexts = subst (λ ns. k < length ns) is inside in
-      let fits = next_fits tree holds k no_register next (subst (λ n. k < n) count within) in
-      let read : next ≡ get_or tree.nexts k next = subst (λ ns. next ≡ get_or ns k next) is there in
-      let here = subst (λ x. IsTrue (gives tree (get_or tree.regs k no_register).width x)) (sym read) fits in
+      let within : k < length tree.nexts = subst (λ list. k < length list) is inside in
+      let fits = next_fits tree holds k no_register next (subst (λ count. k < count) count within) in
+      let read : next ≡ get_or tree.nexts k next = subst (λ list. next ≡ get_or list k next) is there in
+      let here = subst (λ operand. IsTrue (gives tree (get_or tree.regs k no_register).width operand)) (sym read) fits in
       rw (all_nets_count numbers wide) (and_parts _ _ here).0
 
   gives_stands : (width : ℕ) (x : SvOperand) → gives tree width x ≡ true → operand_stands tree (length tree.nets) x ≡ true
@@ -72,7 +72,7 @@ module _ (tree : Module) (holds : IsWellFormed tree) where
   pub out_stands_at :
       (outs : List SvOut) → outs ≡ tree.outs → (k : ℕ) (out : SvOut) → k < length outs → out ≡ get_or outs k out → IsTrue (out_stands tree out)
   out_stands_at outs is k out inside there =
-      let within : k < length tree.outs = subst (λ os. k < length os) is inside in
-      let fits = output_fits tree holds k no_port out (subst (λ n. k < n) (output_count tree holds) within) in
-      let read : out ≡ get_or tree.outs k out = subst (λ os. out ≡ get_or os k out) is there in
-      subst (λ o. IsTrue (out_stands tree o)) (sym read) (out_fits_stands (get_or tree.ports k no_port) (get_or tree.outs k out) fits)
+      let within : k < length tree.outs = subst (λ list. k < length list) is inside in
+      let fits = output_fits tree holds k no_port out (subst (λ count. k < count) (output_count tree holds) within) in
+      let read : out ≡ get_or tree.outs k out = subst (λ list. out ≡ get_or list k out) is there in
+      subst (λ one_out. IsTrue (out_stands tree one_out)) (sym read) (out_fits_stands (get_or tree.ports k no_port) (get_or tree.outs k out) fits)

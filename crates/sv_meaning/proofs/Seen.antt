@@ -50,8 +50,8 @@ module _ (tree : Module) (inputs : Inputs) (cycle : ℕ) (cells : List InCell) (
   nets_same so_far [] = refl
   nets_same so_far (net ∷ rest) =
       let first = operation_same so_far net.width net.op in
-      subst (λ v. net_values_after tree inputs cycle registers (so_far ++ operation_value tree inputs cycle registers so_far net.width net.op ∷ []) rest
-      ≡ net_values_after tree (in_cells cells) 0 registers (so_far ++ v ∷ []) rest) first
+      subst (λ given. net_values_after tree inputs cycle registers (so_far ++ operation_value tree inputs cycle registers so_far net.width net.op ∷ []) rest
+      ≡ net_values_after tree (in_cells cells) 0 registers (so_far ++ given ∷ []) rest) first
       (nets_same (so_far ++ operation_value tree inputs cycle registers so_far net.width net.op ∷ []) rest)
 
   -- what an operand shows once the nets are valued

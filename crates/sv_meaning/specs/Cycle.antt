@@ -20,22 +20,22 @@ use Rattle.sv_meaning.specs.declared.cycle.Cycle.{Cycle}
 use Rattle.sv_meaning.specs.Rows.{port_of}
 
 abbrev pub values : List Number → List ℕ
-values numbers = map (λ n. n.value) numbers
+values numbers = map (λ number. number.value) numbers
 
 abbrev pub widths : List Number → List ℕ
-widths numbers = map (λ n. n.width) numbers
+widths numbers = map (λ number. number.width) numbers
 
 -- numbers of the widths of the registers
 abbrev pub AreRegisters : Module → List Number → Type 0
-AreRegisters tree numbers = widths numbers ≡ map (λ r. r.width) tree.regs
+AreRegisters tree numbers = widths numbers ≡ map (λ reg. reg.width) tree.regs
 
 -- numbers of the widths of the first nets
 abbrev pub AreNets : Module → List Number → Type 0
-AreNets tree numbers = widths numbers ≡ map (λ n. n.width) (take (length numbers) tree.nets)
+AreNets tree numbers = widths numbers ≡ map (λ net. net.width) (take (length numbers) tree.nets)
 
 -- numbers of the widths of all nets
 abbrev pub AreAllNets : Module → List Number → Type 0
-AreAllNets tree numbers = widths numbers ≡ map (λ n. n.width) tree.nets
+AreAllNets tree numbers = widths numbers ≡ map (λ net. net.width) tree.nets
 
 -- the cells fit the ports, and the registers are those of the module
 abbrev pub IsCycle : Cycle → Type 0

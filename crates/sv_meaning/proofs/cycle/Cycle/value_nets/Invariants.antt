@@ -6,7 +6,7 @@ use Rattle.sv_meaning.proofs.cycle.Cycle.value_nets.Given as goal
 abbrev pub invariant-loop-net : goal.invariant-loop-net
 invariant-loop-net l = record {
   valued : values l.nets.items ≡ net_values_after l.self.module.now (in_cells l.self.cells.now) 0 (values l.self.registers.now) [] (take l.net-index l.net-items);
-  wide : widths l.nets.items ≡ map (λ n. n.width) (take l.net-index l.net-items);
+  wide : widths l.nets.items ≡ map (λ net. net.width) (take l.net-index l.net-items);
   count : vec_len l.nets ≡ l.net-index;
   room : vec_capacity l.nets ≡ vec_capacity l.fn.nets;
 }

@@ -10,9 +10,9 @@ use Rattle.sv_meaning.proofs.machine.Machine.step.Goals as goal
 
 pub show_outs-requires-clause-cells : goal.show_outs-requires-clause-cells
 show_outs-requires-clause-cells c =
-    let tree : c.self.inside.module.now ≡ c.args.self.now.tree = ap (λ m. m.tree) c.self.view_is in
+    let tree : c.self.inside.module.now ≡ c.args.self.now.tree = ap (λ machine. machine.tree) c.self.view_is in
     let ports : length c.args.out.now.cells.items ≡ length c.self.inside.module.now.ports =
-    subst (λ t. length c.args.out.now.cells.items ≡ length t.ports) (sym tree) c.requires.places.0 in
+    subst (λ some_tree. length c.args.out.now.cells.items ≡ length some_tree.ports) (sym tree) c.requires.places.0 in
     let outs = output_count c.self.inside.module.now c.value_nets.ensures.well_formed in
     let long : length c.as_mut_slice.result.now ≡ c.args.out.now.cells.len = c.as_mut_slice.ensures.len in
     let items : c.args.out.now.cells.len ≡ length c.args.out.now.cells.items = c.args.out.now.cells.ok.0 in
@@ -20,12 +20,12 @@ show_outs-requires-clause-cells c =
 
 pub show_sources-requires : goal.show_sources-requires
 show_sources-requires c =
-    let tree : c.self.inside.module.now ≡ c.args.self.now.tree = ap (λ m. m.tree) c.self.view_is in
+    let tree : c.self.inside.module.now ≡ c.args.self.now.tree = ap (λ machine. machine.tree) c.self.view_is in
     let sources : length c.args.out.now.regs.items ≡ source_count c.self.inside.module.now.regs =
-    subst (λ t. length c.args.out.now.regs.items ≡ source_count t.regs) (sym tree) c.requires.places.1 in
+    subst (λ some_tree. length c.args.out.now.regs.items ≡ source_count some_tree.regs) (sym tree) c.requires.places.1 in
     let within = sources_within c.self.inside.module.now.regs in
     let count = registers_count c.self.inside.module.now c.self.inside.registers.items c.self.invariant.0 in
-    let numbers = ap (λ ns. length ns) c.as_slice-3.ensures.value in
+    let numbers = ap (λ list. length list) c.as_slice-3.ensures.value in
     let long : length c.as_mut_slice-2.result.now ≡ c.args.out.now.regs.len = c.as_mut_slice-2.ensures.len in
     let items : c.args.out.now.regs.len ≡ length c.args.out.now.regs.items = c.args.out.now.regs.ok.0 in
     omega (arith, sources, within, count, numbers, long, items)
@@ -46,10 +46,10 @@ pub invariant_of-self : goal.invariant_of-self
 unfolding now nets
 invariant_of-self c =
     let wide = nexts_wide (now c) (nets c) c.self.inside.module.now.regs c.self.inside.module.now.nexts (points_of c.self.inside.module.now c.value_nets.ensures.well_formed).nexts in
-    let moved : widths c.swap.new.x.items ≡ map (λ r. r.width) c.self.inside.module.now.regs =
+    let moved : widths c.swap.new.x.items ≡ map (λ reg. reg.width) c.self.inside.module.now.regs =
     rw c.swap.ensures.x_after (rw c.value_nexts.ensures.nexts wide) in
-    let moved_room = ap (λ v. vec_capacity v) c.swap.ensures.x_after in
-    let kept_room = ap (λ v. vec_capacity v) c.swap.ensures.y_after in (
+    let moved_room = ap (λ given. vec_capacity given) c.swap.ensures.x_after in
+    let kept_room = ap (λ given. vec_capacity given) c.swap.ensures.y_after in (
       moved,
       omega (arith, c.value_nets.ensures.room, c.self.invariant.1),
       omega (arith, moved_room, c.value_nexts.ensures.room, c.self.invariant.3),
@@ -84,7 +84,7 @@ returns-clause-cells c rows stands inputs begins =
 pub returns-clause-regs : goal.returns-clause-regs
 unfolding now nets
 returns-clause-regs c rows stands inputs begins =
-    let wide : widths c.as_slice-2.result.now ≡ map (λ r. r.width) c.self.inside.module.now.regs = rw c.as_slice-2.ensures.value c.self.invariant.0 in
+    let wide : widths c.as_slice-2.result.now ≡ map (λ reg. reg.width) c.self.inside.module.now.regs = rw c.as_slice-2.ensures.value c.self.invariant.0 in
     let shown =
     sources_of_step c.args.self.now (now c) (nets c) c.args.row.now (seen c) c.as_slice.ensures.value (valued c) c.value_nets.ensures.well_formed rows stands inputs begins wide in
     let here = rw c.as_slice-2.ensures.value at shown in
@@ -97,11 +97,11 @@ returns-clause-regs c rows stands inputs begins =
 
 pub returns-clause-places : goal.returns-clause-places
 returns-clause-places c =
-    let tree : c.self.inside.module.now ≡ c.args.self.now.tree = ap (λ m. m.tree) c.self.view_is in
+    let tree : c.self.inside.module.now ≡ c.args.self.now.tree = ap (λ machine. machine.tree) c.self.view_is in
     let ports : length c.args.out.now.cells.items ≡ length c.self.inside.module.now.ports =
-    subst (λ t. length c.args.out.now.cells.items ≡ length t.ports) (sym tree) c.requires.places.0 in
+    subst (λ some_tree. length c.args.out.now.cells.items ≡ length some_tree.ports) (sym tree) c.requires.places.0 in
     let sources : length c.args.out.now.regs.items ≡ source_count c.self.inside.module.now.regs =
-    subst (λ t. length c.args.out.now.regs.items ≡ source_count t.regs) (sym tree) c.requires.places.1 in
+    subst (λ some_tree. length c.args.out.now.regs.items ≡ source_count some_tree.regs) (sym tree) c.requires.places.1 in
     let cells_long : length c.as_mut_slice.result.now ≡ c.args.out.now.cells.len = c.as_mut_slice.ensures.len in
     let regs_long : length c.as_mut_slice-2.result.now ≡ c.args.out.now.regs.len = c.as_mut_slice-2.ensures.len in
     let cells_items : c.args.out.now.cells.len ≡ length c.args.out.now.cells.items = c.args.out.now.cells.ok.0 in
