@@ -1,16 +1,19 @@
 -- What an output row shows of a cycle: the outgoing wires of each port, and the source registers.
-use Rattle.std.specs.Prelude.{◌≡◌, ◌==◌, ℕ, suc, Bool, true, false, if◌then◌else◌, List, [], ◌∷◌, length}
+use Rattle.std.specs.Prelude.{◌≡◌, ◌==◌, ℕ, suc, Bool, true, false, if◌then◌else◌, List, [], ◌∷◌, ◌++◌, length}
 use Rattle.anvil_bits.specs.Number.{Number}
 use Rattle.core_term.specs.declared.rows.OutCell.{OutCell}
 use Rattle.core_term.specs.declared.rows.OutCell.TheVariants as outgoing
 use Rattle.core_term.specs.declared.rows.OutRow.{OutRow}
+use Rattle.core_term.specs.declared.rows.Row.{Row}
+use Rattle.core_term.specs.Inputs.{Inputs}
 use Rattle.core_term.specs.Rows.{number_of}
 use Rattle.sv_tree.specs.declared.tree.SvPort.{SvPort}
 use Rattle.sv_tree.specs.declared.tree.SvReg.{SvReg}
 use Rattle.sv_tree.specs.declared.tree.SvRegName.{SvRegName}
 use Rattle.sv_tree.specs.declared.tree.SvRegName.TheVariants.{Source, State}
 use Rattle.sv_tree.specs.Module.{Module}
-use Rattle.sv_tree.specs.Clocked.{Output, received, sent}
+use Rattle.sv_tree.specs.Clocked.{Output, received, sent, outputs_at, registers_at}
+use Rattle.sv_meaning.specs.Rows.{BeginsWith}
 
 -- a wire of one bit is a test; `data` has the width of its port
 abbrev pub cell_of : SvPort → Output → OutCell
@@ -41,3 +44,13 @@ sources_of [] values = []
 sources_of (reg ∷ regs) [] = []
 sources_of (reg ∷ regs) (value ∷ values) =
     if is_source reg.name then number_of reg.width value ∷ sources_of regs values else sources_of regs values
+
+-- The cycle after `rows`, in which `row` comes in, whatever comes in later: what goes out on each port.
+abbrev pub ShowsOutputs : (rows : List Row) → (row : Row) → Module → OutRow → Type 0
+ShowsOutputs rows row tree shown =
+    (inputs : Inputs) → BeginsWith inputs (rows ++ row ∷ []) → shown.cells.items ≡ cells_of tree.ports (outputs_at tree inputs (length rows))
+
+-- and what the registers of the source hold
+abbrev pub ShowsSources : (rows : List Row) → (row : Row) → Module → OutRow → Type 0
+ShowsSources rows row tree shown =
+    (inputs : Inputs) → BeginsWith inputs (rows ++ row ∷ []) → shown.regs.items ≡ sources_of tree.regs (registers_at tree inputs (length rows))

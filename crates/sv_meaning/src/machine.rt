@@ -1,11 +1,9 @@
 //! A machine that runs a module, one row of inputs a cycle.
 ghost use Rattle.std.specs.Prelude.{◌≡◌, ◌≤◌, ◌++◌, ◌∷◌, [], IfOk, List, length, take};
 ghost use Rattle.core_term.specs.declared.rows.Row.{Row as RowSeen};
-ghost use Rattle.core_term.specs.Inputs.{Inputs};
-ghost use Rattle.sv_tree.specs.Clocked.{outputs_at, registers_at};
-ghost use Rattle.sv_meaning.specs.Rows.{FitsPorts, BeginsWith};
+ghost use Rattle.sv_meaning.specs.Rows.{FitsPorts};
 ghost use Rattle.sv_meaning.specs.Stands.{StandsAfter};
-ghost use Rattle.sv_meaning.specs.Shown.{cells_of, sources_of, HasPlaces};
+ghost use Rattle.sv_meaning.specs.Shown.{HasPlaces, ShowsOutputs, ShowsSources};
 
 use crate::cycle::Cycle;
 use anvil_bits::Bits;
@@ -70,8 +68,8 @@ impl<'m> Machine<'m> {
         ensures same_module { self.new.tree ≡ self.old.tree }
         ensures places { HasPlaces self.new.tree out.new }
         ensures stands { (rows : List RowSeen) → StandsAfter rows self.old → StandsAfter (rows ++ row.now ∷ []) self.new }
-        ensures cells { (rows : List RowSeen) → StandsAfter rows self.old → (inputs : Inputs) → BeginsWith inputs (rows ++ row.now ∷ []) → out.new.cells.items ≡ cells_of self.old.tree.ports (outputs_at self.old.tree inputs (length rows)) }
-        ensures regs { (rows : List RowSeen) → StandsAfter rows self.old → (inputs : Inputs) → BeginsWith inputs (rows ++ row.now ∷ []) → out.new.regs.items ≡ sources_of self.old.tree.regs (registers_at self.old.tree inputs (length rows)) }
+        ensures cells { (rows : List RowSeen) → StandsAfter rows self.old → ShowsOutputs rows row.now self.old.tree out.new }
+        ensures regs { (rows : List RowSeen) → StandsAfter rows self.old → ShowsSources rows row.now self.old.tree out.new }
     {
         let cycle = Cycle {
             module: self.module,
