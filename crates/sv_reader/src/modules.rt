@@ -1,0 +1,76 @@
+//! The modules of a text that are whole, whose names are found in a table.
+ghost use Rattle.std.specs.Prelude.{◌≡◌, ◌++◌, ◌∷◌, [], false, map, bytes_eq, MatchResult};
+ghost use Rattle.std.specs.List.{list_any};
+ghost use Rattle.sv_tree.specs.Module.{Module};
+ghost use Rattle.sv_reader.specs.declared.fault.Fault.TheVariants.{NoMemory};
+
+use crate::fault::Fault;
+use crate::tables::push;
+use anvil_lexer::Name;
+use indexmap::IndexSet;
+use std::alloc::Global;
+use std::marker::Model;
+use sv_tree::SvModule;
+
+/// Whole modules, in order.
+#[derive(Drop)]
+pub struct ModuleTable {
+    modules: Vec<SvModule>,
+    names: IndexSet<Name>,
+}
+
+impl Model for ModuleTable {
+    ghost use Rattle.std.specs.Prelude.{List, map, ◌≡◌};
+    ghost use Rattle.sv_tree.specs.Module.{Module};
+
+    ghost Value = { List Module };
+
+    ghost view = { λ table. table.modules.items };
+
+    // The keys are the names of the modules, in order.
+    ghost invariant = { λ table. table.names.keys ≡ map (λ (tree : Module). tree.proc) table.modules.items };
+}
+
+impl ModuleTable {
+    /// No modules.
+    pub fn new(alloc: Global) -> ModuleTable
+        ensures { result ≡ [] }
+    {
+        ModuleTable {
+            modules: Vec::new(alloc),
+            names: IndexSet::new(alloc),
+        }
+    }
+
+    /// Whether a module has the name.
+    pub fn is_taken(&self, name: &Name) -> bool
+        ensures { result ≡ list_any (bytes_eq name.now) (map (λ (tree : Module). tree.proc) self.now) }
+    {
+        self.names.contains(name)
+    }
+
+    /// The modules alone.
+    pub fn into_modules(self) -> Vec<SvModule>
+        ensures { result.items ≡ self }
+    {
+        self.modules
+    }
+
+    /// With one module more, of a name that none has.
+    pub fn with(self, whole: SvModule) -> Result<ModuleTable, Fault>
+        requires fresh { list_any (bytes_eq whole.proc) (map (λ (tree : Module). tree.proc) self) ≡ false }
+        ensures { MatchResult result (λ table. table ≡ self ++ whole ∷ []) (λ fault. fault ≡ NoMemory) }
+    {
+        let ModuleTable {
+            mut modules,
+            mut names,
+        } = self;
+        match names.insert(whole.proc().copy()) {
+            Ok(_) => match push(&mut modules, whole) {
+                Ok(()) => Ok(ModuleTable { modules, names }),
+                Err(fault) => Err(fault),
+            },
+            Err(_) => Err(Fault::NoMemory),
+        }
+    }
+}
