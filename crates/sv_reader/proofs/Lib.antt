@@ -9,6 +9,11 @@ pub mod Places
 pub mod OperandsRead
 pub mod OpsRead
 pub mod SameTexts
+pub mod FixedText
+pub mod HeaderText
+pub mod ItemsText
+pub mod OutputsText
+pub mod ClockText
 pub mod TextKept
 mod Examples
 pub mod Goes

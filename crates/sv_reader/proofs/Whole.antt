@@ -8,7 +8,8 @@ use Rattle.sv_reader.specs.Step.{read_on, read_to_end, step}
 use Rattle.sv_reader.specs.Good.{IsGood}
 use Rattle.sv_reader.proofs.GoodKept.{good_kept, start_good, kept_of_good, viable as good_begins}
 use Rattle.sv_reader.proofs.StepsKeep.{is_text_of}
-use Rattle.sv_reader.proofs.TextKept.{StandsAt, text_kept, with_line}
+use Rattle.sv_reader.proofs.FixedText.{with_line}
+use Rattle.sv_reader.proofs.TextKept.{StandsAt, text_kept}
 use Rattle.sv_reader.proofs.NotEmitted.{Viable}
 use Rattle.sv_reader.proofs.Along.{kept_whole, viable_by}
 use Rattle.sv_reader.specs.Refused.{BeginsText}
