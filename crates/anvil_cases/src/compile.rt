@@ -1,6 +1,7 @@
 //! The command `compile`.
 use crate::bench::{Faults, NO_FAULTS, NOT_BUILT, run};
 use anvil_tool::Status;
+use std::alloc::{AllocError, Global};
 use std::test::Fail;
 
 const COUNTER: &[u8] = b"proc c() { reg a : logic[8]; loop { set a := *a + 8'd1 >> cycle 2 } }";
@@ -95,73 +96,75 @@ fn words_without_a_form(rt: HostRuntime) -> Result<(), Fail> {
     Ok(())
 }
 
+/// Files of the language that are not plain, each with the reason.
+const NOT_PLAIN: [(&str, &[u8]); 17] = [
+    ("no register", b"proc c() { }"),
+    ("a class", b"chan k { left m : (logic[8]@#1) }"),
+    (
+        "an endpoint",
+        b"chan k { left m : (logic[8]@#1) } proc c(e : left k) { reg a : logic[8]; loop { set a := *a + 8'd1 >> cycle 2 } }",
+    ),
+    (
+        "two processes of one name",
+        b"proc c() { reg a : logic[8]; loop { set a := *a + 8'd1 >> cycle 2 } } proc c() { reg b : logic[8]; loop { set b := *b + 8'd1 >> cycle 2 } }",
+    ),
+    (
+        "two registers",
+        b"proc c() { reg a : logic[8]; reg b : logic[8]; loop { set a := *a + 8'd1 >> cycle 2 } }",
+    ),
+    (
+        "a reset literal",
+        b"proc c() { reg a : logic[8] = 8'd1; loop { set a := *a + 8'd1 >> cycle 2 } }",
+    ),
+    (
+        "no wait",
+        b"proc c() { reg a : logic[8]; loop { set a := *a + 8'd1 } }",
+    ),
+    (
+        "a block",
+        b"proc c() { reg a : logic[8]; loop { { set a := *a + 8'd1 >> cycle 2 } } }",
+    ),
+    (
+        "width 65",
+        b"proc c() { reg a : logic[65]; loop { set a := *a + 65'd1 >> cycle 2 } }",
+    ),
+    (
+        "width 0",
+        b"proc c() { reg a : logic[0]; loop { set a := *a + 0'd0 >> cycle 2 } }",
+    ),
+    (
+        "cycle 0",
+        b"proc c() { reg a : logic[8]; loop { set a := *a + 8'd1 >> cycle 0 } }",
+    ),
+    (
+        "cycle 65536",
+        b"proc c() { reg a : logic[8]; loop { set a := *a + 8'd1 >> cycle 65536 } }",
+    ),
+    (
+        "a literal of 2^W",
+        b"proc c() { reg a : logic[8]; loop { set a := *a + 8'd256 >> cycle 2 } }",
+    ),
+    (
+        "a literal of 2^64",
+        b"proc c() { reg a : logic[64]; loop { set a := *a + 64'd18446744073709551616 >> cycle 2 } }",
+    ),
+    (
+        "a name with __",
+        b"proc c() { reg a__b : logic[8]; loop { set a__b := *a__b + 8'd1 >> cycle 2 } }",
+    ),
+    (
+        "another register read",
+        b"proc c() { reg a : logic[8]; loop { set a := *b + 8'd1 >> cycle 2 } }",
+    ),
+    (
+        "widths that differ",
+        b"proc c() { reg a : logic[8]; loop { set a := *a + 9'd1 >> cycle 2 } }",
+    ),
+];
+
 #[test]
 fn files_that_are_not_plain(rt: HostRuntime) -> Result<(), Fail> {
-    let files: [(&str, &[u8]); 17] = [
-        ("no register", b"proc c() { }"),
-        ("a class", b"chan k { left m : (logic[8]@#1) }"),
-        (
-            "an endpoint",
-            b"chan k { left m : (logic[8]@#1) } proc c(e : left k) { reg a : logic[8]; loop { set a := *a + 8'd1 >> cycle 2 } }",
-        ),
-        (
-            "two processes of one name",
-            b"proc c() { reg a : logic[8]; loop { set a := *a + 8'd1 >> cycle 2 } } proc c() { reg b : logic[8]; loop { set b := *b + 8'd1 >> cycle 2 } }",
-        ),
-        (
-            "two registers",
-            b"proc c() { reg a : logic[8]; reg b : logic[8]; loop { set a := *a + 8'd1 >> cycle 2 } }",
-        ),
-        (
-            "a reset literal",
-            b"proc c() { reg a : logic[8] = 8'd1; loop { set a := *a + 8'd1 >> cycle 2 } }",
-        ),
-        (
-            "no wait",
-            b"proc c() { reg a : logic[8]; loop { set a := *a + 8'd1 } }",
-        ),
-        (
-            "a block",
-            b"proc c() { reg a : logic[8]; loop { { set a := *a + 8'd1 >> cycle 2 } } }",
-        ),
-        (
-            "width 65",
-            b"proc c() { reg a : logic[65]; loop { set a := *a + 65'd1 >> cycle 2 } }",
-        ),
-        (
-            "width 0",
-            b"proc c() { reg a : logic[0]; loop { set a := *a + 0'd0 >> cycle 2 } }",
-        ),
-        (
-            "cycle 0",
-            b"proc c() { reg a : logic[8]; loop { set a := *a + 8'd1 >> cycle 0 } }",
-        ),
-        (
-            "cycle 65536",
-            b"proc c() { reg a : logic[8]; loop { set a := *a + 8'd1 >> cycle 65536 } }",
-        ),
-        (
-            "a literal of 2^W",
-            b"proc c() { reg a : logic[8]; loop { set a := *a + 8'd256 >> cycle 2 } }",
-        ),
-        (
-            "a literal of 2^64",
-            b"proc c() { reg a : logic[64]; loop { set a := *a + 64'd18446744073709551616 >> cycle 2 } }",
-        ),
-        (
-            "a name with __",
-            b"proc c() { reg a__b : logic[8]; loop { set a__b := *a__b + 8'd1 >> cycle 2 } }",
-        ),
-        (
-            "another register read",
-            b"proc c() { reg a : logic[8]; loop { set a := *b + 8'd1 >> cycle 2 } }",
-        ),
-        (
-            "widths that differ",
-            b"proc c() { reg a : logic[8]; loop { set a := *a + 9'd1 >> cycle 2 } }",
-        ),
-    ];
-    for (name, file) in files.iter() {
+    for (name, file) in NOT_PLAIN.iter() {
         let refused = run(rt.alloc(), &["compile", "f"], file, NO_FAULTS)?;
         assert!(rt; refused.status == Status::Refused, "{name}");
         assert_eq!(rt; refused.out.bytes(), b"".as_slice());
@@ -253,6 +256,39 @@ fn two_processes_give_two_modules(rt: HostRuntime) -> Result<(), Fail> {
     );
     assert_eq!(rt; done.err.bytes(), b"".as_slice());
     Ok(())
+}
+
+// What 64 processes give together is what each gives alone, one after the other.
+#[test]
+fn sixty_four_processes_give_as_many_modules(rt: HostRuntime) -> Result<(), Fail> {
+    let words: [&str; 2] = ["compile", "f"];
+    let mut file = Vec::new(rt.alloc());
+    for number in 0..64u8 {
+        file.extend_from_slice(&counter(rt.alloc(), number)?)?;
+    }
+    let done = run(rt.alloc(), &words, &file, NO_FAULTS)?;
+    assert!(rt; done.status == Status::Done);
+    assert_eq!(rt; done.err.bytes(), b"".as_slice());
+    let mut rest = done.out.bytes();
+    for number in 0..64u8 {
+        let alone = run(rt.alloc(), &words, &counter(rt.alloc(), number)?, NO_FAULTS)?;
+        assert!(rt; alone.status == Status::Done && !alone.out.bytes().is_empty());
+        let Some(after) = rest.strip_prefix(alone.out.bytes()) else {
+            assert!(rt; false, "the module of process {number}");
+            break;
+        };
+        rest = after;
+    }
+    assert_eq!(rt; rest, b"".as_slice());
+    Ok(())
+}
+
+// A counting process, whose name and literal tell its number.
+fn counter(alloc: Global, number: u8) -> Result<Vec<u8>, AllocError> {
+    let text = format!(in alloc;
+        "proc p{number}() {{ reg a : logic[8]; loop {{ set a := *a + 8'd{number} >> cycle 2 }} }}\n"
+    )?;
+    Vec::from_slice(alloc, text.as_bytes())
 }
 
 #[test]

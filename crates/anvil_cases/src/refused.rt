@@ -39,78 +39,80 @@ fn place_of(line: &[u8]) -> Option<usize> {
     place.parse::<usize>().ok()
 }
 
+/// Files as parts, each so many times, and the line that tells their refusal.
+const REFUSED: [(&str, &[(&[u8], usize)], &[u8]); 15] = [
+    ("no UTF-8", &[(b"proc\xff", 1)], b"refused: NotUtf8 at 4\n"),
+    (
+        "a character that begins no token",
+        &[(b"proc c() { ! }", 1)],
+        b"refused: BadChar at 11\n",
+    ),
+    (
+        "digits before letters",
+        &[(b"proc c() { reg a : logic[8bit]; }", 1)],
+        b"refused: BadNumber at 25\n",
+    ),
+    (
+        "a name of 65 bytes",
+        &[(b"proc ", 1), (b"a", 65), (b"() { }", 1)],
+        b"refused: LongName at 5\n",
+    ),
+    (
+        "a parenthesis that is not closed",
+        &[(b"proc c( { }", 1)],
+        b"refused: Unexpected at 8\n",
+    ),
+    (
+        "a brace that is not closed",
+        &[(b"proc c() {", 1)],
+        b"refused: Unexpected at 10\n",
+    ),
+    (
+        "a keyword as a name",
+        &[(b"proc loop() { }", 1)],
+        b"refused: Unexpected at 5\n",
+    ),
+    (
+        "the lexer's fault comes first, though it stands later",
+        &[(b"proc c( { } !", 1)],
+        b"refused: BadChar at 12\n",
+    ),
+    (
+        "64 open brackets",
+        &[(SET, 1), (b"(", 62), (b"8'd1", 1), (b")", 62), (END, 1)],
+        NOT_BUILT,
+    ),
+    (
+        "65 open brackets",
+        &[(SET, 1), (b"(", 63), (b"8'd1", 1), (b")", 63), (END, 1)],
+        b"refused: TooDeep at 107\n",
+    ),
+    (
+        "16 threads",
+        &[(b"proc t() { ", 1), (b"loop { cycle 1 } ", 16), (b"}", 1)],
+        NOT_BUILT,
+    ),
+    (
+        "17 threads",
+        &[(b"proc t() { ", 1), (b"loop { cycle 1 } ", 17), (b"}", 1)],
+        b"refused: TooMany at 283\n",
+    ),
+    (
+        "255 nodes of an expression",
+        &[(SET, 1), (b"8'd1 + ", 127), (b"8'd1", 1), (END, 1)],
+        NOT_BUILT,
+    ),
+    (
+        "257 nodes of an expression",
+        &[(SET, 1), (b"8'd1 + ", 128), (b"8'd1", 1), (END, 1)],
+        b"refused: TooMany at 941\n",
+    ),
+    ("a client of a memory", &[(CLIENT, 1)], NOT_BUILT),
+];
+
 #[test]
 fn the_line_has_code_and_place(rt: HostRuntime) -> Result<(), Fail> {
-    let rows: [(&str, &[(&[u8], usize)], &[u8]); 15] = [
-        ("no UTF-8", &[(b"proc\xff", 1)], b"refused: NotUtf8 at 4\n"),
-        (
-            "a character that begins no token",
-            &[(b"proc c() { ! }", 1)],
-            b"refused: BadChar at 11\n",
-        ),
-        (
-            "digits before letters",
-            &[(b"proc c() { reg a : logic[8bit]; }", 1)],
-            b"refused: BadNumber at 25\n",
-        ),
-        (
-            "a name of 65 bytes",
-            &[(b"proc ", 1), (b"a", 65), (b"() { }", 1)],
-            b"refused: LongName at 5\n",
-        ),
-        (
-            "a parenthesis that is not closed",
-            &[(b"proc c( { }", 1)],
-            b"refused: Unexpected at 8\n",
-        ),
-        (
-            "a brace that is not closed",
-            &[(b"proc c() {", 1)],
-            b"refused: Unexpected at 10\n",
-        ),
-        (
-            "a keyword as a name",
-            &[(b"proc loop() { }", 1)],
-            b"refused: Unexpected at 5\n",
-        ),
-        (
-            "the lexer's fault comes first, though it stands later",
-            &[(b"proc c( { } !", 1)],
-            b"refused: BadChar at 12\n",
-        ),
-        (
-            "64 open brackets",
-            &[(SET, 1), (b"(", 62), (b"8'd1", 1), (b")", 62), (END, 1)],
-            NOT_BUILT,
-        ),
-        (
-            "65 open brackets",
-            &[(SET, 1), (b"(", 63), (b"8'd1", 1), (b")", 63), (END, 1)],
-            b"refused: TooDeep at 107\n",
-        ),
-        (
-            "16 threads",
-            &[(b"proc t() { ", 1), (b"loop { cycle 1 } ", 16), (b"}", 1)],
-            NOT_BUILT,
-        ),
-        (
-            "17 threads",
-            &[(b"proc t() { ", 1), (b"loop { cycle 1 } ", 17), (b"}", 1)],
-            b"refused: TooMany at 283\n",
-        ),
-        (
-            "255 nodes of an expression",
-            &[(SET, 1), (b"8'd1 + ", 127), (b"8'd1", 1), (END, 1)],
-            NOT_BUILT,
-        ),
-        (
-            "257 nodes of an expression",
-            &[(SET, 1), (b"8'd1 + ", 128), (b"8'd1", 1), (END, 1)],
-            b"refused: TooMany at 941\n",
-        ),
-        ("a client of a memory", &[(CLIENT, 1)], NOT_BUILT),
-    ];
-    for (name, parts, line) in rows.iter() {
+    for (name, parts, line) in REFUSED.iter() {
         let file = text_of(rt.alloc(), parts)?;
         let refused = run(rt.alloc(), &["compile", "f"], &file, NO_FAULTS)?;
         assert!(rt; refused.status == Status::Refused, "{name}");

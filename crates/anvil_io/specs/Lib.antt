@@ -3,3 +3,4 @@ pub mod Causes
 pub mod Memory
 pub mod Entries
 pub mod System
+pub mod Lines

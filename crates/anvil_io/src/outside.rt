@@ -7,14 +7,19 @@ ghost use Rattle.std.specs.declared.option.Option.{Option};
 ghost use Rattle.std.specs.Io.KnownBytes.{Appends};
 ghost use Rattle.anvil_io.specs.Causes.{Rose, FaultHasCause, LengthHasCause, AppendsPrefix};
 
+use thiserror::Error;
+
 /// Why a load gave nothing.
-#[derive(Clone, Copy, Debug, PartialEq, Eq)]
+#[derive(Clone, Copy, Debug, PartialEq, Eq, Error)]
 pub enum LoadErr {
     /// The shelf failed, or has nothing under the name: only where its count of faults rose.
+    #[error("read fault")]
     Fault,
     /// The bytes are more than the limit.
+    #[error("too long")]
     TooLong,
     /// No memory was found.
+    #[error("no memory")]
     NoMemory,
 }
 

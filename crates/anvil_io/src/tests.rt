@@ -181,18 +181,32 @@ fn a_shelf_over_files_gives_their_bytes(rt: HostRuntime) -> Result<(), Fail> {
 }
 
 #[test]
-fn a_sink_over_a_stream_writes_its_pieces(rt: HostRuntime) -> Result<(), Fail> {
+fn a_sink_over_a_stream_writes_whole_lines(rt: HostRuntime) -> Result<(), Fail> {
     let _ = fs::remove_dir_all(&rt, STREAM);
     fs::create_dir(&rt, STREAM)?;
     let mut sink = StdSink::new(fs::create(&rt, TEXT)?);
     assert_eq!(rt; sink.put(b"one, "), Ok(()));
     assert_eq!(rt; sink.put(b""), Ok(()));
-    assert_eq!(rt; put_all(&mut sink, &[b"two, ", b"three"]), Ok(()));
+    assert_eq!(rt;
+        fs::read_to_string(&rt, TEXT)?.as_str(),
+        "",
+        "a line without its end"
+    );
+    assert_eq!(rt; put_all(&mut sink, &[b"two, ", b"three\n"]), Ok(()));
+    assert_eq!(rt;
+        fs::read_to_string(&rt, TEXT)?.as_str(),
+        "one, two, three\n"
+    );
+    assert_eq!(rt; sink.put(b"four"), Ok(()));
     drop(sink);
-    assert_eq!(rt; fs::read_to_string(&rt, TEXT)?.as_str(), "one, two, three");
+    assert_eq!(rt;
+        fs::read_to_string(&rt, TEXT)?.as_str(),
+        "one, two, three\n",
+        "an end that never came"
+    );
     let mut closed = StdSink::new(fs::open(&rt, TEXT)?);
     assert_eq!(rt;
-        closed.put(b"four"),
+        closed.put(b"five\n"),
         Err(SinkFault),
         "a stream that is only read"
     );
@@ -202,10 +216,73 @@ fn a_sink_over_a_stream_writes_its_pieces(rt: HostRuntime) -> Result<(), Fail> {
 
 #[test]
 fn a_write_that_takes_nothing_is_a_fault(rt: HostRuntime) {
-    let mut sink = StdSink::new(Cursor::new([0u8; 3]));
-    assert_eq!(rt; sink.put(b"ab"), Ok(()));
-    assert_eq!(rt; sink.put(b"cd"), Err(SinkFault));
+    let mut sink = StdSink::new(Cursor::new([0u8; 4]));
+    assert_eq!(rt; sink.put(b"ab\n"), Ok(()));
+    assert_eq!(rt; sink.put(b"cd\n"), Err(SinkFault));
     assert_eq!(rt; sink.put(b""), Ok(()));
+}
+
+// A writer that takes every piece and counts its calls and bytes.
+#[derive(Drop)]
+struct Counting {
+    writes: u32,
+    bytes: usize,
+}
+
+impl Write for Counting {
+    fn write(&mut self, buf: &[u8]) -> io::Result<usize> {
+        self.writes = self.writes.saturating_add(1);
+        self.bytes = self.bytes.saturating_add(buf.len());
+        Ok(buf.len())
+    }
+
+    fn flush(&mut self) -> io::Result<()> {
+        Ok(())
+    }
+}
+
+// A part of a long line.
+const PART: &[u8] = &[b'x'; 1000];
+
+// How often a writer is called for a text of these pieces, and how many bytes it takes.
+fn moved(pieces: &[&[u8]]) -> (u32, usize) {
+    let mut to = Counting {
+        writes: 0,
+        bytes: 0,
+    };
+    let mut sink = StdSink::new(&mut to);
+    let _ = put_all(&mut sink, pieces);
+    drop(sink);
+    (to.writes, to.bytes)
+}
+
+#[test]
+fn a_line_is_one_write(rt: HostRuntime) {
+    let rows: [(&str, &[&[u8]], u32, usize); 5] = [
+        ("no piece", &[], 0, 0),
+        (
+            "one line",
+            &[b"  logic ", b"[7:0]", b" a__q", b";\n"],
+            1,
+            20,
+        ),
+        ("two lines", &[b"a", b"b\n", b"", b"c", b"\n"], 2, 5),
+        (
+            "a line of 4,001 bytes",
+            &[PART, PART, PART, PART, b"\n"],
+            1,
+            4001,
+        ),
+        (
+            "a line of 5,001 bytes, more than are kept",
+            &[PART, PART, PART, PART, PART, b"\n"],
+            3,
+            5001,
+        ),
+    ];
+    for (what, pieces, writes, bytes) in rows {
+        assert_eq!(rt; moved(pieces), (writes, bytes), "{what}");
+    }
 }
 
 // A reader and writer whose first call is interrupted by a signal. The second call moves two bytes at most, and each
@@ -252,11 +329,31 @@ impl Write for Unsteady {
     }
 }
 
+// A writer that takes every piece and cannot be flushed.
+#[derive(Drop)]
+struct Unflushed;
+
+impl Write for Unflushed {
+    fn write(&mut self, buf: &[u8]) -> io::Result<usize> {
+        Ok(buf.len())
+    }
+
+    fn flush(&mut self) -> io::Result<()> {
+        Err(io::Error::from(ErrorKind::Other))
+    }
+}
+
+#[test]
+fn a_flush_that_fails_is_a_fault(rt: HostRuntime) {
+    let mut sink = StdSink::new(Unflushed);
+    assert_eq!(rt; sink.put(b"ab\n"), Err(SinkFault));
+}
+
 #[test]
 fn an_interrupted_call_is_tried_again(rt: HostRuntime) {
     let mut sink = StdSink::new(Unsteady::new(ErrorKind::Other));
-    assert_eq!(rt; sink.put(b"ab"), Ok(()));
-    assert_eq!(rt; sink.put(b"cd"), Err(SinkFault));
+    assert_eq!(rt; sink.put(b"a\n"), Ok(()));
+    assert_eq!(rt; sink.put(b"b\n"), Err(SinkFault));
     let rows = [
         (ErrorKind::Other, 9, LoadErr::Fault),
         (ErrorKind::OutOfMemory, 9, LoadErr::NoMemory),

@@ -18,7 +18,7 @@ use Rattle.anvil_lexer.specs.Characters.{begins_identifier, continues_identifier
 use Rattle.anvil_lexer.specs.Spelling.{kind_of_word}
 use Rattle.anvil_lexer.specs.Lexeme.{Lexeme, mark, characters_of, text_of}
 use Rattle.anvil_lexer.specs.TokenText.{said_by}
-use Rattle.anvil_lexer.specs.Scan.{front, after_front, numeral, mark_spelled, mark_at, named, scan, IsMarkAt, Reads, Fails, ReadsNext, FailsNext, said_fault}
+use Rattle.anvil_lexer.specs.Scan.{front, after_front, numeral, mark_spelled, mark_at, named, scan, IsMarkAt, Reads, Fails, ReadsNext, FailsNext, said_refusal}
 use Rattle.anvil_lexer.proofs.Fronts.{front_joined, front_more}
 use Rattle.anvil_lexer.proofs.Marks.{mark_read}
 use Rattle.anvil_lexer.proofs.Bytes.{some_bytes}
@@ -143,7 +143,7 @@ pub reads_next : (at : ℕ) (lexeme : Lexeme) (text : List ℕ) (r : Result (Tok
     → MatchResult r (λ read. Reads at lexeme text read.0 read.1.now) (λ e. Fails at lexeme (chars text) e) → MatchResult r
     (λ read. ReadsNext at text read.0 read.1.now) (λ e. FailsNext at text e)
 reads_next at lexeme text (Ok read) scanned reads = record { lexeme = lexeme; scanned = scanned; reads = reads }
-reads_next at lexeme text (Err e) scanned fails = said_fault lexeme e scanned fails
+reads_next at lexeme text (Err e) scanned fails = said_refusal lexeme e scanned fails
 
 pub mark_next : (at : ℕ) (text : List ℕ) (m : Mark) (rest : List ℕ) → scan (chars text) ≡ mark_at (chars text)
     → IsMarkAt text m rest → ReadsNext at text (kind.Mark m) rest

@@ -1,5 +1,5 @@
 -- What comes next at a place of a source in UTF-8: the definitions of token texts allow one step, and the reader takes it.
--- A gap is skipped whole because neither a token nor a fault begins with a blank or a comment; then the place is told by how
+-- A gap is skipped whole because neither a token nor a refusal begins with a blank or a comment; then the place is told by how
 -- many bytes are left, and the longest lexeme and what it says by the characters that are left.
 use Rattle.std.proofs.Common.{◌≡◌, ℕ, ◌+◌, ◌-◌, ◌<◌, false, List, [], ◌∷◌, ◌++◌, refl, ap, sym, ◌∙◌, subst, length, drop, arith, Some, None, Result, Ok, Err}
 use Rattle.std.specs.Str.{IsUtf8, encode_utf8_all, chars}
@@ -11,8 +11,8 @@ use Rattle.anvil_lexer.specs.declared.token.TokenKind.{TokenKind}
 use Rattle.anvil_lexer.specs.declared.token.Token.{Token}
 use Rattle.anvil_lexer.specs.Lexeme.{Lexeme, characters_of, text_of}
 use Rattle.anvil_lexer.specs.Gap.{IsGap, begins_gap}
-use Rattle.anvil_lexer.specs.TokenText.{said_by, Says, IsTokenAt, IsFaultAt, unmade, unknown, IsGapBetween, IsGapToEnd}
-use Rattle.anvil_lexer.specs.Scan.{scan, skip, Step, at_end, made, fault, said, stepped, step}
+use Rattle.anvil_lexer.specs.TokenText.{said_by, Says, IsTokenAt, IsRefusalAt, unmade, unknown, IsGapBetween, IsGapToEnd}
+use Rattle.anvil_lexer.specs.Scan.{scan, skip, Step, at_end, made, refusal, said, stepped, step}
 use Rattle.anvil_lexer.proofs.Longest.{scan_read}
 use Rattle.anvil_lexer.proofs.Gaps.{skip_found, skip_last}
 use Rattle.anvil_lexer.proofs.Bytes.{after_characters, cut_characters, front_joins, some_bytes}
@@ -23,7 +23,7 @@ unfolding scan
 step_some at [] lexeme e = absurd cc
 step_some at (c ∷ cs) lexeme e = ap (stepped at (c ∷ cs)) e
 
-pub step_none : (at : ℕ) (cs : List ℕ) → 0 < length cs → scan cs ≡ None → step at cs ≡ fault (BadChar at)
+pub step_none : (at : ℕ) (cs : List ℕ) → 0 < length cs → scan cs ≡ None → step at cs ≡ refusal (BadChar at)
 step_none at [] some e = absurd (omega arith)
 step_none at (c ∷ cs) some e = ap (stepped at (c ∷ cs)) e
 
@@ -129,14 +129,14 @@ module _ (source : List ℕ) where
       let there = reached from token.at utf8 between says.2 (says_some token.at token.len (Ok token.kind) gap.3 is) in
       (there.0 ∙ says.0, says.1)
 
-  -- a fault that may come next does
-  pub fault_next_is : (from at : ℕ) (e : LexErr) → IsUtf8 (drop from source) → IsGapBetween source from at → IsFaultAt source at e
-      → next from ≡ fault e
-  fault_next_is from at e utf8 between (unmade len f is) =
+  -- a refusal that may come next does
+  pub refusal_next_is : (from at : ℕ) (e : LexErr) → IsUtf8 (drop from source) → IsGapBetween source from at → IsRefusalAt source at e
+      → next from ≡ refusal e
+  refusal_next_is from at e utf8 between (unmade len f is) =
       let gap = gap_reaches from at utf8 between in
       let says = says_step at len (Err f) gap.3 is in
       (reached from at utf8 between says.2 (says_some at len (Err f) gap.3 is)).0 ∙ says.0
-  fault_next_is from at e utf8 between (unknown within stops none) =
+  refusal_next_is from at e utf8 between (unknown within stops none) =
       let gap = gap_reaches from at utf8 between in
       let some = some_left (drop at source) gap.3 (omega (arith, length-drop at source)) in
       (reached from at utf8 between stops some).0 ∙ step_none at (chars (drop at source)) some (none_found (drop at source) gap.3 none)

@@ -1,5 +1,5 @@
 -- What the reader takes is what the definitions allow: what it skips is a gap, what it makes is a token at its place, and
--- where it makes none there is a fault.
+-- where it makes none there is a refusal.
 use Rattle.std.proofs.Common.{◌≡◌, ℕ, ◌-◌, ◌<◌, ◌≤◌, false, List, [], ◌∷◌, ◌++◌, refl, ap, sym, ◌∙◌, subst, length, take, drop, arith, Option, Some, None, Result, Ok, Err}
 use Rattle.std.specs.Str.{IsUtf8, encode_utf8_all, chars}
 use Rattle.std.proofs.lemmas.Str.{encodes-chars, chars-nil, encodes-append}
@@ -10,8 +10,8 @@ use Rattle.anvil_lexer.specs.declared.token.TokenKind.{TokenKind}
 use Rattle.anvil_lexer.specs.declared.token.Token.{Token}
 use Rattle.anvil_lexer.specs.Lexeme.{Lexeme, characters_of, text_of}
 use Rattle.anvil_lexer.specs.Gap.{closed, begins_gap}
-use Rattle.anvil_lexer.specs.TokenText.{said_by, IsTokenAt, IsFaultAt, unmade, unknown, IsGapBetween, IsGapToEnd}
-use Rattle.anvil_lexer.specs.Scan.{scan, skip, made, fault, said, stepped, step}
+use Rattle.anvil_lexer.specs.TokenText.{said_by, IsTokenAt, IsRefusalAt, unmade, unknown, IsGapBetween, IsGapToEnd}
+use Rattle.anvil_lexer.specs.Scan.{scan, skip, made, refusal, said, stepped, step}
 use Rattle.anvil_lexer.proofs.Gaps.{Skips, whole, to_end, skip_read, skip_stops}
 use Rattle.anvil_lexer.proofs.Bytes.{cut_characters}
 use Rattle.anvil_lexer.proofs.Places.{none_stands}
@@ -70,9 +70,9 @@ module _ (source : List ℕ) (from to : ℕ) (skipped : IsSkipped source from to
       (ap (λ (t : Token). t.at) (sym is), ap (λ (t : Token). Ok t.kind) is, ap (λ (t : Token). t.len) (sym is))
   said_made at len token (Err f) e = absurd cc
 
-  said_fault : (at len : ℕ) (f : LexErr) (r : Result TokenKind LexErr) → said at len r ≡ fault f → r ≡ Err f
-  said_fault at len f (Ok kind) e = absurd cc
-  said_fault at len f (Err g) e = let same : g ≡ f = cc in ap (λ h. Err h) same
+  said_refusal : (at len : ℕ) (f : LexErr) (r : Result TokenKind LexErr) → said at len r ≡ refusal f → r ≡ Err f
+  said_refusal at len f (Ok kind) e = absurd cc
+  said_refusal at len f (Err g) e = let same : g ≡ f = cc in ap (λ h. Err h) same
 
   step_is : (cs : List ℕ) → 0 < length cs → step to cs ≡ stepped to cs (scan cs)
   step_is [] some = absurd (omega arith)
@@ -100,17 +100,17 @@ module _ (source : List ℕ) (from to : ℕ) (skipped : IsSkipped source from to
           (said_by to lexeme (drop (length (characters_of lexeme)) (chars (drop to source)))) e in
           (parts.0, rw (parts.0, parts.2, sym parts.1) says)
 
-  pub fault_taken : (f : LexErr) → to < length source → step to (chars (drop to source)) ≡ fault f → IsFaultAt source to f
-  fault_taken f more is = go (scan (chars (drop to source))) refl (sym (step_is (chars (drop to source)) (chars_some more)) ∙ is)
+  pub refusal_taken : (f : LexErr) → to < length source → step to (chars (drop to source)) ≡ refusal f → IsRefusalAt source to f
+  refusal_taken f more is = go (scan (chars (drop to source))) refl (sym (step_is (chars (drop to source)) (chars_some more)) ∙ is)
     where
-      go : (found : Option Lexeme) → scan (chars (drop to source)) ≡ found → stepped to (chars (drop to source)) found ≡ fault f
-          → IsFaultAt source to f
+      go : (found : Option Lexeme) → scan (chars (drop to source)) ≡ found → stepped to (chars (drop to source)) found ≡ refusal f
+          → IsRefusalAt source to f
       go None none e =
           let is_char : BadChar to ≡ f = cc in
-          subst (IsFaultAt source to) is_char
+          subst (IsRefusalAt source to) is_char
           (unknown more (ap begins_gap skipped.left ∙ skip_stops (chars (drop from source)))
           (none_stands (drop to source) skipped.utf8_after none))
       go (Some lexeme) scanned e =
           let says = step_says source to lexeme skipped.utf8_after scanned in
-          unmade (length (text_of lexeme)) f (rw (sym (said_fault to (length (text_of lexeme)) f
+          unmade (length (text_of lexeme)) f (rw (sym (said_refusal to (length (text_of lexeme)) f
           (said_by to lexeme (drop (length (characters_of lexeme)) (chars (drop to source)))) e)) says)

@@ -1,5 +1,5 @@
 -- One turn of the loop over a text: from the place where the last token ended it skips to the next one, and what is read there
--- goes before whatever is read after it. At the end the closing token is left, and a fault is the fault of the whole.
+-- goes before whatever is read after it. At the end the closing token is left, and a refusal is the refusal of the whole.
 use Rattle.std.proofs.Common.{◌≡◌, ℕ, ◌+◌, ◌-◌, ◌<◌, false, List, [], ◌∷◌, ◌++◌, refl, ap, sym, ◌∙◌, subst, append_assoc, length, drop, arith, Ok, Err, Bool, true, cond, nat_le, ◌==◌, ◌||◌, ◌^◌}
 use Rattle.std.specs.Str.{IsUtf8, encode_utf8_all, chars}
 use Rattle.std.proofs.lemmas.List.{length-append, drop_at}
@@ -14,14 +14,14 @@ use Rattle.anvil_lexer.specs.declared.token.Token.{Token}
 use Rattle.anvil_lexer.specs.Lexeme.{Lexeme, identifier, number, literal, mark, characters_of, text_of, IsLexeme}
 use Rattle.anvil_lexer.specs.Characters.{letter, continues_identifier, begins_with, value_of}
 use Rattle.anvil_lexer.specs.Spelling.{kind_of_word}
-use Rattle.anvil_lexer.specs.TokenText.{said_by, IsFaultAt, unmade, unknown, AreTokensFrom, ended, token_next, FailsFrom, failed, token_before}
-use Rattle.anvil_lexer.specs.Scan.{skip, IsEndOf, ReadsNext, FailsNext, none_there, said_fault, made, fault, step, FailsOrFull}
+use Rattle.anvil_lexer.specs.TokenText.{said_by, IsRefusalAt, unmade, unknown, AreTokensFrom, ended, token_next, FailsFrom, failed, token_before}
+use Rattle.anvil_lexer.specs.Scan.{skip, IsEndOf, ReadsNext, FailsNext, none_there, said_refusal, made, refusal, step, FailsOrFull}
 use Rattle.anvil_lexer.proofs.Bytes.{some_bytes}
 use Rattle.anvil_lexer.proofs.Marks.{mark_some}
 use Rattle.anvil_lexer.proofs.Longest.{scan_read}
 use Rattle.anvil_lexer.proofs.Reading.{end_long, end_is}
 use Rattle.anvil_lexer.proofs.Steps.{step_some, step_none}
-use Rattle.anvil_lexer.proofs.Taken.{IsSkipped, gap_taken, end_taken, token_taken, fault_taken}
+use Rattle.anvil_lexer.proofs.Taken.{IsSkipped, gap_taken, end_taken, token_taken, refusal_taken}
 
 -- what is read next is the step there
 reads_step : (at : ℕ) (here after : List ℕ) (kind : TokenKind) → IsUtf8 here → ReadsNext at here kind after
@@ -38,9 +38,9 @@ reads_step at here after kind utf8 next =
     (arith, ap length bytes, length-append (text_of next.lexeme) after) in
     step_some at (chars here) next.lexeme next.scanned ∙ rw (rest_is, next.reads.says, long) refl
 
-fails_step : (at : ℕ) (here : List ℕ) (e : LexErr) → 0 < length (chars here) → FailsNext at here e → step at (chars here) ≡ fault e
+fails_step : (at : ℕ) (here : List ℕ) (e : LexErr) → 0 < length (chars here) → FailsNext at here e → step at (chars here) ≡ refusal e
 fails_step at here e some (none_there none) = step_none at (chars here) some none
-fails_step at here e some (said_fault lexeme f scanned fails) =
+fails_step at here e some (said_refusal lexeme f scanned fails) =
     let rest_is : drop (length (characters_of lexeme)) (chars here) ≡ fails.rest =
     ap (λ l. drop (length (characters_of lexeme)) l) fails.joined
     ∙ drop_at (characters_of lexeme) fails.rest (length (characters_of lexeme)) refl in
@@ -119,18 +119,18 @@ module _ (text rest here : List ℕ) (rest_end : IsEndOf text rest) (here_end : 
       token_next (place_of text rest) token tokens (gap_taken text (place_of text rest) (place_of text here) skipped inside) taken.1
       (subst (λ (n : ℕ). AreTokensFrom text n tokens) (sym onward) are)
 
-  pub fault_turn : (e : LexErr) → 0 < length here → 0 < length (chars here) → FailsNext (place_of text here) here e
+  pub refusal_turn : (e : LexErr) → 0 < length here → 0 < length (chars here) → FailsNext (place_of text here) here e
       → FailsFrom text (place_of text rest) e
-  fault_turn e some some_characters next =
+  refusal_turn e some some_characters next =
       let here_is = end_is text here here_in_text in
       let inside : place_of text here < length text = omega (arith, end_long text here here_in_text) in
       let stepped = ap (λ l. step (place_of text here) (chars l)) here_is ∙ fails_step (place_of text here) here e some_characters next in
       failed (place_of text rest) (place_of text here) e (gap_taken text (place_of text rest) (place_of text here) skipped inside)
-      (fault_taken text (place_of text rest) (place_of text here) skipped e inside stepped)
+      (refusal_taken text (place_of text rest) (place_of text here) skipped e inside stepped)
 
-  pub fault_before : (kind : TokenKind) (after : List ℕ) → 0 < length here → ReadsNext (place_of text here) here kind after
+  pub refusal_before : (kind : TokenKind) (after : List ℕ) → 0 < length here → ReadsNext (place_of text here) here kind after
       → (e : LexErr) → FailsFrom text (place_of text after) e → FailsFrom text (place_of text rest) e
-  fault_before kind after some next e fails =
+  refusal_before kind after some next e fails =
       let token : Token = record { kind = kind; at = place_of text here; len = length here - length after } in
       let here_is = end_is text here here_in_text in
       let inside : place_of text here < length text = omega (arith, end_long text here here_in_text) in
@@ -168,7 +168,7 @@ never_said at bad (literal width base digits) after e = go
     go false f = cc
 never_said at bad (mark m) after e = cc
 
-never_at : (text : List ℕ) (at bad : ℕ) (e : LexErr) → IsFaultAt text at e → e ≡ NotUtf8 bad → ⊥
+never_at : (text : List ℕ) (at bad : ℕ) (e : LexErr) → IsRefusalAt text at e → e ≡ NotUtf8 bad → ⊥
 never_at text at bad e (unmade len f says) is = never_said at bad says.lexeme (chars (drop (at + len) text))
     (says.meaning ∙ ap (λ g. Err g) is)
 never_at text at bad e (unknown within stops none) is = cc
@@ -177,7 +177,7 @@ never_fails : (text : List ℕ) (from bad : ℕ) (e : LexErr) → FailsFrom text
 never_fails text from bad e (failed f at g gap there) is = never_at text at bad e there is
 never_fails text from bad e (token_before f token g gap there rest) is = never_fails text (token.at + token.len) bad e rest is
 
--- a fault of the text is one that may be answered
+-- a refusal of the text is one that may be answered
 pub full_or_not : (text : List ℕ) (e : LexErr) → FailsFrom text 0 e → FailsOrFull text e
 full_or_not text (NotUtf8 at) fails = never_fails text 0 at (NotUtf8 at) fails refl
 full_or_not text (BadChar at) fails = fails

@@ -1,4 +1,4 @@
--- The whole answer: what is answered is the one list of tokens or the one first fault, or want of memory. That the answer is
+-- The whole answer: what is answered is the one list of tokens or the one first refusal, or want of memory. That the answer is
 -- the only one is `Unique`; a list of tokens ends with its one `End`, and its places rise, since each token has a byte at least.
 use Rattle.std.proofs.Common.{◌≡◌, ℕ, ◌+◌, ◌<◌, ◌≤◌, Bool, true, false, List, [], ◌∷◌, refl, ap, sym, ◌∙◌, length, drop, arith, Result, Ok, Err, ◌⊎◌, inl, inr, cond, nat_le, ◌==◌, ◌||◌, ◌^◌}
 use Rattle.std.specs.Prelude.{◌≢◌, MatchResult, IfErr, IfOk}
@@ -14,9 +14,9 @@ use Rattle.anvil_lexer.specs.declared.token.Token.{Token}
 use Rattle.anvil_lexer.specs.Characters.{continues_identifier, begins_with, value_of}
 use Rattle.anvil_lexer.specs.Spelling.{keyword_text, keywords, word_among, kind_of_word}
 use Rattle.anvil_lexer.specs.Lexeme.{Lexeme, identifier, number, literal, mark, characters_of, text_of}
-use Rattle.anvil_lexer.specs.TokenText.{said_by, IsTokenAt, AreTokensFrom, ended, token_next, FailsFrom, IsTokenText, IsFirstFault, AreClosed, ArePlacesRising}
+use Rattle.anvil_lexer.specs.TokenText.{said_by, IsTokenAt, AreTokensFrom, ended, token_next, FailsFrom, IsTokenText, IsLexRefusal, AreClosed, ArePlacesRising}
 use Rattle.anvil_lexer.specs.Scan.{FailsOrFull}
-use Rattle.anvil_lexer.proofs.Unique.{one_list, one_fault, tokens_or_fault}
+use Rattle.anvil_lexer.proofs.Unique.{one_list, one_refusal, tokens_or_refusal}
 use Rattle.anvil_lexer.proofs.Turns.{lexeme_some}
 use Rattle.std.proofs.lemmas.Str.{length-le-encodes}
 
@@ -29,12 +29,12 @@ module _ (source : List ℕ) (utf8 : IsUtf8 source) {V : Type 0} (items : V → 
       → MatchResult r (λ v. items v ≡ tokens) (λ e. e ≡ NoMemory)
   every_text (Ok v) are tokens match = one_list source 0 (items v) tokens utf8 are match.1
   every_text (Err (NotUtf8 at)) fails tokens match = absurd fails
-  every_text (Err (BadChar at)) fails tokens match = absurd (tokens_or_fault source 0 tokens (BadChar at) utf8 match.1 fails)
-  every_text (Err (BadNumber at)) fails tokens match = absurd (tokens_or_fault source 0 tokens (BadNumber at) utf8 match.1 fails)
-  every_text (Err (LongName at)) fails tokens match = absurd (tokens_or_fault source 0 tokens (LongName at) utf8 match.1 fails)
+  every_text (Err (BadChar at)) fails tokens match = absurd (tokens_or_refusal source 0 tokens (BadChar at) utf8 match.1 fails)
+  every_text (Err (BadNumber at)) fails tokens match = absurd (tokens_or_refusal source 0 tokens (BadNumber at) utf8 match.1 fails)
+  every_text (Err (LongName at)) fails tokens match = absurd (tokens_or_refusal source 0 tokens (LongName at) utf8 match.1 fails)
   every_text (Err NoMemory) fails tokens match = refl
 
-  pub refused : (r : Result V LexErr) → Answered r → IfErr r (λ e. e ≢ NoMemory → IsFirstFault source e)
+  pub refused : (r : Result V LexErr) → Answered r → IfErr r (λ e. e ≢ NoMemory → IsLexRefusal source e)
   refused (Ok v) are = tt
   refused (Err (NotUtf8 at)) fails = λ other. absurd fails
   refused (Err (BadChar at)) fails = λ other. (utf8, fails)
@@ -42,33 +42,33 @@ module _ (source : List ℕ) (utf8 : IsUtf8 source) {V : Type 0} (items : V → 
   refused (Err (LongName at)) fails = λ other. (utf8, fails)
   refused (Err NoMemory) fails = λ other. absurd (other refl)
 
-  -- and each first fault
-  at_fault : (r : Result V LexErr) → Answered r → (fault : LexErr) → FailsFrom source 0 fault
-      → MatchResult r (λ v. ⊥) (λ e. (e ≡ fault) ⊎ (e ≡ NoMemory))
-  at_fault (Ok v) are fault fails = tokens_or_fault source 0 (items v) fault utf8 are fails
-  at_fault (Err (NotUtf8 at)) found fault fails = absurd found
-  at_fault (Err (BadChar at)) found fault fails = inl (one_fault source 0 (BadChar at) fault utf8 found fails)
-  at_fault (Err (BadNumber at)) found fault fails = inl (one_fault source 0 (BadNumber at) fault utf8 found fails)
-  at_fault (Err (LongName at)) found fault fails = inl (one_fault source 0 (LongName at) fault utf8 found fails)
-  at_fault (Err NoMemory) found fault fails = inr refl
+  -- and each first refusal
+  at_refusal : (r : Result V LexErr) → Answered r → (refusal : LexErr) → FailsFrom source 0 refusal
+      → MatchResult r (λ v. ⊥) (λ e. (e ≡ refusal) ⊎ (e ≡ NoMemory))
+  at_refusal (Ok v) are refusal fails = tokens_or_refusal source 0 (items v) refusal utf8 are fails
+  at_refusal (Err (NotUtf8 at)) found refusal fails = absurd found
+  at_refusal (Err (BadChar at)) found refusal fails = inl (one_refusal source 0 (BadChar at) refusal utf8 found fails)
+  at_refusal (Err (BadNumber at)) found refusal fails = inl (one_refusal source 0 (BadNumber at) refusal utf8 found fails)
+  at_refusal (Err (LongName at)) found refusal fails = inl (one_refusal source 0 (LongName at) refusal utf8 found fails)
+  at_refusal (Err NoMemory) found refusal fails = inr refl
 
-  pub every_fault : (r : Result V LexErr) → Answered r → (fault : LexErr) → IsFirstFault source fault
-      → MatchResult r (λ v. ⊥) (λ e. (e ≡ fault) ⊎ (e ≡ NoMemory))
-  every_fault r answered (NotUtf8 at) fault = absurd (fault.0 utf8)
-  every_fault r answered (BadChar at) fault = at_fault r answered (BadChar at) fault.1
-  every_fault r answered (BadNumber at) fault = at_fault r answered (BadNumber at) fault.1
-  every_fault r answered (LongName at) fault = at_fault r answered (LongName at) fault.1
-  every_fault r answered NoMemory fault = absurd fault
+  pub every_refusal : (r : Result V LexErr) → Answered r → (refusal : LexErr) → IsLexRefusal source refusal
+      → MatchResult r (λ v. ⊥) (λ e. (e ≡ refusal) ⊎ (e ≡ NoMemory))
+  every_refusal r answered (NotUtf8 at) refusal = absurd (refusal.0 utf8)
+  every_refusal r answered (BadChar at) refusal = at_refusal r answered (BadChar at) refusal.1
+  every_refusal r answered (BadNumber at) refusal = at_refusal r answered (BadNumber at) refusal.1
+  every_refusal r answered (LongName at) refusal = at_refusal r answered (LongName at) refusal.1
+  every_refusal r answered NoMemory refusal = absurd refusal
 
--- the one fault of a source that isn't UTF-8
-pub not_utf8_fault : (source : List ℕ) (at : ℕ) → (IsUtf8 source → ⊥) → IsValidUpTo source at → (fault : LexErr)
-    → IsFirstFault source fault → NotUtf8 at ≡ fault
-not_utf8_fault source at no_text valid (NotUtf8 other) fault = ap (λ n. NotUtf8 n)
-    (sym (utf8_valid_len-IsValidUpTo source at valid) ∙ utf8_valid_len-IsValidUpTo source other fault.1)
-not_utf8_fault source at no_text valid (BadChar other) fault = absurd (no_text fault.0)
-not_utf8_fault source at no_text valid (BadNumber other) fault = absurd (no_text fault.0)
-not_utf8_fault source at no_text valid (LongName other) fault = absurd (no_text fault.0)
-not_utf8_fault source at no_text valid NoMemory fault = absurd fault
+-- the one refusal of a source that isn't UTF-8
+pub not_utf8_refusal : (source : List ℕ) (at : ℕ) → (IsUtf8 source → ⊥) → IsValidUpTo source at → (refusal : LexErr)
+    → IsLexRefusal source refusal → NotUtf8 at ≡ refusal
+not_utf8_refusal source at no_text valid (NotUtf8 other) refusal = ap (λ n. NotUtf8 n)
+    (sym (utf8_valid_len-IsValidUpTo source at valid) ∙ utf8_valid_len-IsValidUpTo source other refusal.1)
+not_utf8_refusal source at no_text valid (BadChar other) refusal = absurd (no_text refusal.0)
+not_utf8_refusal source at no_text valid (BadNumber other) refusal = absurd (no_text refusal.0)
+not_utf8_refusal source at no_text valid (LongName other) refusal = absurd (no_text refusal.0)
+not_utf8_refusal source at no_text valid NoMemory refusal = absurd refusal
 
 -- no lexeme says `End`
 word_no_end : (keys : List Keyword) (text : List ℕ) → word_among keys text ≡ End → ⊥

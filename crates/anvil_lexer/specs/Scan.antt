@@ -113,7 +113,7 @@ pub record Reads (at : ℕ) (lexeme : Lexeme) (text : List ℕ) (kind : TokenKin
   pub end : IsEndOf text rest
   pub utf8 : IsUtf8 rest
 
--- it says a fault instead
+-- it says a refusal instead
 pub record Fails (at : ℕ) (lexeme : Lexeme) (text : List ℕ) (e : LexErr) : Type 0 where
   pub rest : List ℕ
   pub says : said_by at lexeme rest ≡ Err e
@@ -137,12 +137,12 @@ pub record ReadsNext (at : ℕ) (text : List ℕ) (kind : TokenKind) (rest : Lis
   pub scanned : scan (chars text) ≡ Some lexeme
   pub reads : Reads at lexeme text kind rest
 
--- there is none, or it says a fault
+-- there is none, or it says a refusal
 pub data FailsNext (at : ℕ) (text : List ℕ) : LexErr → Type 0 where
   none_there : scan (chars text) ≡ None → FailsNext at text (BadChar at)
-  said_fault : (lexeme : Lexeme) (e : LexErr) → scan (chars text) ≡ Some lexeme → Fails at lexeme (chars text) e → FailsNext at text e
+  said_refusal : (lexeme : Lexeme) (e : LexErr) → scan (chars text) ≡ Some lexeme → Fails at lexeme (chars text) e → FailsNext at text e
 
--- a fault of the text, or want of memory
+-- a refusal of the text, or want of memory
 abbrev pub FailsOrFull : List ℕ → LexErr → Type 0
 FailsOrFull text NoMemory = ⊤
 FailsOrFull text (NotUtf8 at) = ⊥
@@ -150,18 +150,18 @@ FailsOrFull text (BadChar at) = FailsFrom text 0 (BadChar at)
 FailsOrFull text (BadNumber at) = FailsFrom text 0 (BadNumber at)
 FailsOrFull text (LongName at) = FailsFrom text 0 (LongName at)
 
--- what comes next at a place that is past blanks and comments: the end, a token, or the first fault
+-- what comes next at a place that is past blanks and comments: the end, a token, or the first refusal
 pub data Step : Type 0 where
   at_end : Step
   made : Token → Step
-  fault : LexErr → Step
+  refusal : LexErr → Step
 
 abbrev pub said : ℕ → ℕ → Result TokenKind LexErr → Step
 said at len (Ok kind) = made (record { kind = kind; at = at; len = len })
-said at len (Err e) = fault e
+said at len (Err e) = refusal e
 
 abbrev pub stepped : ℕ → List ℕ → Option Lexeme → Step
-stepped at cs None = fault (BadChar at)
+stepped at cs None = refusal (BadChar at)
 stepped at cs (Some lexeme) = said at (length (text_of lexeme)) (said_by at lexeme (drop (length (characters_of lexeme)) cs))
 
 abbrev pub step : ℕ → List ℕ → Step

@@ -1,4 +1,4 @@
--- When a source and a list of tokens match, and when a source has a first fault instead. It speaks of slices of the whole
+-- When a source and a list of tokens match, and when a source has a first refusal instead. It speaks of slices of the whole
 -- source by places, which are byte offsets; the code goes over the source once, character by character.
 use Rattle.std.specs.Prelude.{◌≡◌, ◌≢◌, ⊤, ℕ, ◌+◌, ◌^◌, ◌<◌, ◌≤◌, nat_le, false, ◌||◌, ◌==◌, List, [], ◌∷◌, length, take, drop, slice_range, if◌then◌else◌, Result, Ok, Err}
 use Rattle.std.specs.Str.{IsUtf8, IsValidUpTo, encode_utf8_all, chars}
@@ -24,7 +24,7 @@ pub record IsLongest (text : List ℕ) (lexeme : Lexeme) : Type 0 where
   pub stands : Begins lexeme text
   pub longest : (other : Lexeme) → IsLexeme other → Begins other text → length (text_of other) ≤ length (text_of lexeme)
 
--- What the longest lexeme at a place says, before the characters that follow it: a token, or a fault.
+-- What the longest lexeme at a place says, before the characters that follow it: a token, or a refusal.
 -- An identifier has at most as many bytes as a name.
 -- A number is at most 2^32 - 1, and neither `'` nor a character that goes on with an identifier follows it.
 -- A literal's width is at most 2^32 - 1 and its value at most 2^128 - 1, and no character that goes on with an identifier follows it.
@@ -52,10 +52,10 @@ abbrev pub IsTokenAt : List ℕ → Token → Type 0
 IsTokenAt source token = Says source token.at token.len (Ok token.kind)
 
 -- no token can be made at the place: by what the longest lexeme says, or because none stands there, nor blank nor comment
-pub data IsFaultAt (source : List ℕ) (at : ℕ) : LexErr → Type 0 where
-  unmade : (len : ℕ) (fault : LexErr) → Says source at len (Err fault) → IsFaultAt source at fault
+pub data IsRefusalAt (source : List ℕ) (at : ℕ) : LexErr → Type 0 where
+  unmade : (len : ℕ) (refusal : LexErr) → Says source at len (Err refusal) → IsRefusalAt source at refusal
   unknown : at < length source → begins_gap (chars (drop at source)) ≡ false
-      → ((lexeme : Lexeme) → IsLexeme lexeme → ¬ (Begins lexeme (drop at source))) → IsFaultAt source at (BadChar at)
+      → ((lexeme : Lexeme) → IsLexeme lexeme → ¬ (Begins lexeme (drop at source))) → IsRefusalAt source at (BadChar at)
 
 -- only blanks and whole comments stand between two places
 abbrev pub IsGapBetween : List ℕ → ℕ → ℕ → Type 0
@@ -75,23 +75,23 @@ pub data AreTokensFrom (source : List ℕ) : ℕ → List Token → Type 0 where
   token_next : (from : ℕ) (token : Token) (tokens : List Token) → IsGapBetween source from token.at → IsTokenAt source token
       → AreTokensFrom source (token.at + token.len) tokens → AreTokensFrom source from (token ∷ tokens)
 
--- the first fault of the source from a place on
+-- the first refusal of the source from a place on
 pub data FailsFrom (source : List ℕ) : ℕ → LexErr → Type 0 where
-  failed : (from at : ℕ) (fault : LexErr) → IsGapBetween source from at → IsFaultAt source at fault → FailsFrom source from fault
-  token_before : (from : ℕ) (token : Token) (fault : LexErr) → IsGapBetween source from token.at → IsTokenAt source token
-      → FailsFrom source (token.at + token.len) fault → FailsFrom source from fault
+  failed : (from at : ℕ) (refusal : LexErr) → IsGapBetween source from at → IsRefusalAt source at refusal → FailsFrom source from refusal
+  token_before : (from : ℕ) (token : Token) (refusal : LexErr) → IsGapBetween source from token.at → IsTokenAt source token
+      → FailsFrom source (token.at + token.len) refusal → FailsFrom source from refusal
 
 -- the source and the tokens match
 abbrev pub IsTokenText : List ℕ → List Token → Type 0
 IsTokenText source tokens = IsUtf8 source × AreTokensFrom source 0 tokens
 
--- the source has this first fault: that it isn't UTF-8 comes before all others
-abbrev pub IsFirstFault : List ℕ → LexErr → Type 0
-IsFirstFault source (NotUtf8 at) = ¬ (IsUtf8 source) × IsValidUpTo source at
-IsFirstFault source (BadChar at) = IsUtf8 source × FailsFrom source 0 (BadChar at)
-IsFirstFault source (BadNumber at) = IsUtf8 source × FailsFrom source 0 (BadNumber at)
-IsFirstFault source (LongName at) = IsUtf8 source × FailsFrom source 0 (LongName at)
-IsFirstFault source NoMemory = ⊥
+-- the source has this first refusal: that it isn't UTF-8 comes before all others
+abbrev pub IsLexRefusal : List ℕ → LexErr → Type 0
+IsLexRefusal source (NotUtf8 at) = ¬ (IsUtf8 source) × IsValidUpTo source at
+IsLexRefusal source (BadChar at) = IsUtf8 source × FailsFrom source 0 (BadChar at)
+IsLexRefusal source (BadNumber at) = IsUtf8 source × FailsFrom source 0 (BadNumber at)
+IsLexRefusal source (LongName at) = IsUtf8 source × FailsFrom source 0 (LongName at)
+IsLexRefusal source NoMemory = ⊥
 
 -- what follows from a match for each list of tokens: `End` stands at its end and nowhere else
 abbrev pub AreClosed : List Token → Type 0

@@ -2,7 +2,7 @@
 use std::alloc::AllocError;
 use thiserror::Error;
 
-/// The first fault of a source text. A place is a byte offset.
+/// The first refusal of a source text. A place is a byte offset.
 #[derive(Debug, Drop, Error)]
 pub enum LexErr {
     /// Exactly where the source isn't UTF-8: `at` is the length of its longest valid front.

@@ -1,4 +1,4 @@
-//! One table of sources, each with its tokens or its first fault, written out from the rules of the language.
+//! One table of sources, each with its tokens or its first refusal, written out from the rules of the language.
 use crate::{LexErr, Token, lex};
 use std::alloc::{AllocError, Global};
 use std::test::Fail;
@@ -11,7 +11,7 @@ const NAME_64: &str = "a_name_of_sixty_four_bytes_______40________50________60__
 
 const NAME_65: &str = "a_name_of_sixty_four_bytes_______40________50________60_____las\u{fc}";
 
-/// What is expected of a source: its tokens as `{kind:?}` with place and length, or its fault.
+/// What is expected of a source: its tokens as `{kind:?}` with place and length, or its refusal.
 const ROWS: [(&str, &str, &str); 44] = [
     ("an empty source", "", "End 0 0"),
     ("blanks alone", " \t\r\n", "End 4 0"),
@@ -164,18 +164,22 @@ const ROWS: [(&str, &str, &str); 44] = [
         "Word(\"a\") 0 1, Word(\"c\") 7 1, End 21 0",
     ),
     (
-        "a comment hides faults and quotes",
+        "a comment hides what would be refused, and quotes",
         "// ! 12ab \u{f6} ' \" //\n;",
         "Mark(Semicolon) 20 1, End 21 0",
     ),
-    ("the first of two faults", "12 ! 12ab", "BadChar { at: 3 }"),
+    (
+        "the first of two refusals",
+        "12 ! 12ab",
+        "BadChar { at: 3 }",
+    ),
 ];
 
 /// Sources that are no UTF-8.
 const BYTES: [(&str, &[u8], &str); 3] = [
     ("no UTF-8 at the end", b"proc\xff", "NotUtf8 { at: 4 }"),
     (
-        "no UTF-8 after another fault",
+        "no UTF-8 after another refusal",
         b"! 12ab \xc3",
         "NotUtf8 { at: 7 }",
     ),
@@ -190,7 +194,7 @@ const BYTES: [(&str, &[u8], &str); 3] = [
 fn shown(alloc: Global, answer: &Result<Vec<Token>, LexErr>) -> Result<String, AllocError> {
     let tokens = match answer {
         Ok(tokens) => tokens,
-        Err(fault) => return format!(in alloc; "{fault:?}"),
+        Err(refusal) => return format!(in alloc; "{refusal:?}"),
     };
     let mut text = String::new(alloc);
     for token in tokens {
@@ -204,7 +208,7 @@ fn shown(alloc: Global, answer: &Result<Vec<Token>, LexErr>) -> Result<String, A
 }
 
 #[test]
-fn each_source_has_its_tokens_or_its_first_fault(rt: HostRuntime) -> Result<(), Fail> {
+fn each_source_has_its_tokens_or_its_first_refusal(rt: HostRuntime) -> Result<(), Fail> {
     for (what, source, wanted) in ROWS {
         assert!(rt; source.len() <= LONGEST_SOURCE, "{what}");
         let answer = lex(rt.alloc(), source.as_bytes());
@@ -243,7 +247,7 @@ fn the_longest_sources_are_read(rt: HostRuntime) -> Result<(), Fail> {
     assert!(rt; source.len() <= LONGEST_SOURCE);
     match lex(rt.alloc(), source.as_slice()) {
         Ok(tokens) => assert_eq!(rt; tokens.len(), LONGEST_SOURCE + 1),
-        Err(fault) => assert!(rt; false, "{fault:?}"),
+        Err(refusal) => assert!(rt; false, "{refusal:?}"),
     }
     Ok(())
 }

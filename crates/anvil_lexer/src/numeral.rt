@@ -122,17 +122,17 @@ fn literal(width: &str, base: Base, digits: &str, after: &str, at: u32) -> Resul
 
 /// The number or literal whose digits begin the text, and what follows it. `at` is the place of the text.
 pub(crate) fn numeral(text: &str, at: u32) -> Result<(TokenKind, &str), LexErr>
-    ensures { MatchResult result (λ read. Reads at (numeral (chars text.now)) text.now read.0 read.1.now) (λ fault. Fails at (numeral (chars text.now)) (chars text.now) fault) }
+    ensures { MatchResult result (λ read. Reads at (numeral (chars text.now)) text.now read.0 read.1.now) (λ refusal. Fails at (numeral (chars text.now)) (chars text.now) refusal) }
 {
     let (width, after) = split_front(text, Class::Digit(Base::Decimal));
     match literal_end(after) {
         Some((base, digits, after)) => match literal(width, base, digits, after, at) {
             Ok(kind) => Ok((kind, after)),
-            Err(fault) => Err(fault),
+            Err(refusal) => Err(refusal),
         },
         None => match number(width, after, at) {
             Ok(kind) => Ok((kind, after)),
-            Err(fault) => Err(fault),
+            Err(refusal) => Err(refusal),
         },
     }
 }

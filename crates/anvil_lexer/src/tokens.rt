@@ -2,7 +2,7 @@
 ghost use Rattle.std.specs.Prelude.{◌≡◌, ◌≢◌, ◌⊎◌, ◌≤◌, ◌^◌, List, true, length, slice_get, MatchOption, MatchResult, IfOk, IfErr, OnOk, Some, None, ◌++◌, ◌∷◌, []};
 ghost use Rattle.std.specs.Str.{chars};
 ghost use Rattle.anvil_lexer.specs.Characters.{begins_with, begins_identifier};
-ghost use Rattle.anvil_lexer.specs.TokenText.{AreClosed, ArePlacesRising, AreTokensFrom, IsTokenText, IsFirstFault};
+ghost use Rattle.anvil_lexer.specs.TokenText.{AreClosed, ArePlacesRising, AreTokensFrom, IsTokenText, IsLexRefusal};
 ghost use Rattle.anvil_lexer.specs.Scan.{FailsOrFull, IsMarkAt, ReadsNext, FailsNext, mark_at, named, Reads, Fails};
 
 use crate::class::{Base, Class, begins_identifier};
@@ -34,7 +34,7 @@ fn mark(text: &str) -> Option<(Mark, &str)>
 /// The keyword or word whose characters begin the text, and what follows it. `at` is the place of the text.
 fn word(alloc: Global, text: &str, at: u32) -> Result<(TokenKind, &str), LexErr>
     requires { begins_with begins_identifier (chars text.now) ≡ true }
-    ensures { MatchResult result (λ read. Reads at (named (chars text.now)) text.now read.0 read.1.now) (λ fault. Fails at (named (chars text.now)) (chars text.now) fault) }
+    ensures { MatchResult result (λ read. Reads at (named (chars text.now)) text.now read.0 read.1.now) (λ refusal. Fails at (named (chars text.now)) (chars text.now) refusal) }
 {
     let (name, after) = split_front(text, Class::Identifier);
     if name.len() > LONGEST_NAME {
@@ -46,7 +46,7 @@ fn word(alloc: Global, text: &str, at: u32) -> Result<(TokenKind, &str), LexErr>
 /// The token at the front of the text, whose first character is `first`, and what follows it. `at` is the place of the text.
 fn token(alloc: Global, text: &str, first: char, at: u32) -> Result<(TokenKind, &str), LexErr>
     requires { slice_get (chars text.now) 0 ≡ Some first }
-    ensures { MatchResult result (λ read. ReadsNext at text.now read.0 read.1.now) (λ fault. FailsNext at text.now fault) }
+    ensures { MatchResult result (λ read. ReadsNext at text.now read.0 read.1.now) (λ refusal. FailsNext at text.now refusal) }
 {
     if begins_identifier(first) {
         return word(alloc, text, at);
@@ -63,7 +63,7 @@ fn token(alloc: Global, text: &str, first: char, at: u32) -> Result<(TokenKind, 
 /// Puts a token after the others, or wants memory for it.
 fn push(tokens: &mut Vec<Token>, token: Token) -> Result<(), LexErr>
     ensures items { OnOk result (tokens.new.items ≡ tokens.old.items ++ token ∷ []) }
-    ensures full { IfErr result (λ fault. fault ≡ LexErr.NoMemory) }
+    ensures full { IfErr result (λ refusal. refusal ≡ LexErr.NoMemory) }
 {
     match tokens.push(token) {
         Ok(()) => Ok(()),
@@ -74,7 +74,7 @@ fn push(tokens: &mut Vec<Token>, token: Token) -> Result<(), LexErr>
 /// The tokens of a text, closed by `End`.
 fn tokens_of(alloc: Global, text: &str) -> Result<Vec<Token>, LexErr>
     requires { length text.now ≤ 2 ^ 20 }
-    ensures { MatchResult result (λ tokens. AreTokensFrom text.now 0 tokens.items) (λ fault. FailsOrFull text.now fault) }
+    ensures { MatchResult result (λ tokens. AreTokensFrom text.now 0 tokens.items) (λ refusal. FailsOrFull text.now refusal) }
 {
     let mut tokens = Vec::new(alloc);
     let mut rest = text;
@@ -85,7 +85,7 @@ fn tokens_of(alloc: Global, text: &str) -> Result<Vec<Token>, LexErr>
             let kind = TokenKind::End;
             return match push(&mut tokens, Token { kind, at, len: 0 }) {
                 Ok(()) => Ok(tokens),
-                Err(fault) => Err(fault),
+                Err(refusal) => Err(refusal),
             };
         };
         match token(alloc, here, first, at) {
@@ -93,10 +93,10 @@ fn tokens_of(alloc: Global, text: &str) -> Result<Vec<Token>, LexErr>
                 let len = (here.len() - after.len()) as u32;
                 match push(&mut tokens, Token { kind, at, len }) {
                     Ok(()) => rest = after,
-                    Err(fault) => return Err(fault),
+                    Err(refusal) => return Err(refusal),
                 }
             }
-            Err(fault) => return Err(fault),
+            Err(refusal) => return Err(refusal),
         }
     }
 }
@@ -114,16 +114,16 @@ fn tokens_of(alloc: Global, text: &str) -> Result<Vec<Token>, LexErr>
 pub fn lex(alloc: Global, source: &[u8]) -> Result<Vec<Token>, LexErr>
     requires { length source.now ≤ 2 ^ 20 }
     ensures tokens { IfOk result (λ tokens. IsTokenText source.now tokens.items) }
-    ensures every_text { (tokens : List Token) → IsTokenText source.now tokens → MatchResult result (λ found. found.items ≡ tokens) (λ fault. fault ≡ LexErr.NoMemory) }
-    ensures refused { IfErr result (λ fault. fault ≢ LexErr.NoMemory → IsFirstFault source.now fault) }
-    ensures every_fault { (fault : LexErr) → IsFirstFault source.now fault → MatchResult result (λ _. ⊥) (λ found. (found ≡ fault) ⊎ (found ≡ LexErr.NoMemory)) }
+    ensures every_text { (tokens : List Token) → IsTokenText source.now tokens → MatchResult result (λ found. found.items ≡ tokens) (λ refusal. refusal ≡ LexErr.NoMemory) }
+    ensures refused { IfErr result (λ refusal. refusal ≢ LexErr.NoMemory → IsLexRefusal source.now refusal) }
+    ensures every_refusal { (refusal : LexErr) → IsLexRefusal source.now refusal → MatchResult result (λ _. ⊥) (λ found. (found ≡ refusal) ⊎ (found ≡ LexErr.NoMemory)) }
     ensures closed { IfOk result (λ tokens. AreClosed tokens.items) }
     ensures rising { IfOk result (λ tokens. ArePlacesRising tokens.items) }
 {
     match from_utf8(source) {
         Ok(text) => tokens_of(alloc, text),
-        Err(fault) => Err(LexErr::NotUtf8 {
-            at: fault.valid_up_to() as u32,
+        Err(error) => Err(LexErr::NotUtf8 {
+            at: error.valid_up_to() as u32,
         }),
     }
 }

@@ -6,15 +6,15 @@ use Rattle.anvil_lexer.specs.declared.token.Mark.TheVariants as mark
 use Rattle.anvil_tree.specs.Tree.{Name, Act, Term}
 use Rattle.anvil_parser.specs.declared.stack.Joint.{Joint}
 use Rattle.anvil_parser.specs.declared.stack.Joint.TheVariants as joint
-use Rattle.anvil_parser.specs.Position as position
-use Rattle.anvil_parser.specs.Position.{Frame}
-use Rattle.anvil_parser.specs.Step.{act_step, term_ends}
+use Rattle.anvil_grammar.specs.State as states
+use Rattle.anvil_grammar.specs.State.{Frame}
+use Rattle.anvil_grammar.specs.Step.{act_step, term_ends}
 use Rattle.anvil_parser.specs.SeenThread.{bound_of, unbound, joined_frame, joined_step, linked}
 
 pub act_joined : (stack : List Frame) (act : Act) (kind : TokenKind) → act_step stack act kind ≡ joined_step (bound_of stack) (unbound stack) act kind
-act_joined (position.binding name ∷ stack) act (Mark mark.Chain) = refl
-act_joined (position.binding name ∷ stack) act (Mark mark.Semicolon) = refl
-act_joined (position.binding name ∷ stack) act kind = refl
+act_joined (states.binding name ∷ stack) act (Mark mark.Chain) = refl
+act_joined (states.binding name ∷ stack) act (Mark mark.Semicolon) = refl
+act_joined (states.binding name ∷ stack) act kind = refl
 act_joined stack act (Mark mark.Chain) = refl
 act_joined stack act (Mark mark.Semicolon) = refl
 act_joined stack act (Mark mark.CloseBrace) = refl

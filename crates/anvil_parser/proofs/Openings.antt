@@ -5,11 +5,11 @@ use Rattle.anvil_lexer.specs.declared.token.TokenKind.{TokenKind}
 use Rattle.anvil_lexer.specs.declared.token.TokenKind.TheVariants.{Key, Mark}
 use Rattle.anvil_lexer.specs.declared.token.Keyword.TheVariants as key
 use Rattle.anvil_lexer.specs.declared.token.Mark.TheVariants as mark
-use Rattle.anvil_parser.specs.declared.error.Counted.TheVariants as counted
+use Rattle.anvil_grammar.specs.declared.error.Counted.TheVariants as counted
 use Rattle.anvil_parser.specs.declared.step.Begin.{Begin}
-use Rattle.anvil_parser.specs.Position as position
-use Rattle.anvil_parser.specs.Position.{Frame}
-use Rattle.anvil_parser.specs.Step.{Threaded, unexpected, onward, finished, begins_act, begin_step, begin_step_by, operand_step, parenthesis_step, term_step}
+use Rattle.anvil_grammar.specs.State as states
+use Rattle.anvil_grammar.specs.State.{Frame}
+use Rattle.anvil_grammar.specs.Step.{Threaded, unexpected, onward, finished, begins_act, begin_step, begin_step_by, operand_step, parenthesis_step, term_step}
 use Rattle.anvil_parser.specs.Seen.{begin_of}
 use Rattle.anvil_parser.specs.SeenThread.{acted, begins_by_word}
 
@@ -25,7 +25,7 @@ acted_act token act (finished term) is = refl
 
 -- behind `(`, all but `)` is the operand of a group
 pub group_begins : (stack : List Frame) (at : _) (token : Token) (kind : TokenKind) → kind ≢ Mark mark.CloseParen
-    → parenthesis_step stack at token kind ≡ operand_step (position.grouping ∷ stack) token kind
+    → parenthesis_step stack at token kind ≡ operand_step (states.grouping ∷ stack) token kind
 group_begins stack at token (Mark mark.CloseParen) other = absurd (other refl)
 group_begins stack at token kind other = refl
 
@@ -34,7 +34,7 @@ term_begins stack token (Key key.Let) other = absurd (other refl)
 term_begins stack token kind other = refl
 
 pub expression_begins : (stack : List Frame) (token : Token) (kind : TokenKind) → begins_by_word kind ≡ false
-    → begin_step_by stack token kind ≡ operand_step (position.evaluating ∷ stack) token kind
+    → begin_step_by stack token kind ≡ operand_step (states.evaluating ∷ stack) token kind
 expression_begins stack token (Key key.Cycle) other = absurd cc
 expression_begins stack token (Key key.Set) other = absurd cc
 expression_begins stack token (Key key.Send) other = absurd cc

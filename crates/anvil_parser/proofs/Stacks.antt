@@ -2,10 +2,10 @@
 use Rattle.std.proofs.Common.{◌≡◌, ◌+◌, ℕ, List, [], ◌∷◌, ◌++◌, length, slice_get, Some, refl, arith}
 use native.Mathlib.Numerals.{unary_clauses}
 use Rattle.anvil_parser.specs.declared.stack.Frame.{Frame}
-use Rattle.anvil_parser.specs.Position as position
+use Rattle.anvil_grammar.specs.State as states
 use Rattle.anvil_parser.specs.SeenThread.{frame_of, frames_onto}
 
-pub frames_onto_last : (frames : List Frame) (last : Frame) (stack : List position.Frame)
+pub frames_onto_last : (frames : List Frame) (last : Frame) (stack : List states.Frame)
     → frames_onto (frames ++ (last ∷ [])) stack ≡ frame_of last ∷ frames_onto frames stack
 frames_onto_last [] last stack = refl
 frames_onto_last (frame ∷ frames) last stack = frames_onto_last frames last (frame_of frame ∷ stack)
@@ -18,7 +18,7 @@ last_of : (first next : Frame) (frames : List Frame) (top : Frame) → slice_get
 last_of first next frames top is = let same = last_at first (next ∷ frames) (length frames) in let count : length (next ∷ frames) ≡ length frames + 1 = omega arith in cc
 
 -- the frame that is got last lies on top
-pub top_of : (first : Frame) (frames : List Frame) (stack : List position.Frame) (top : Frame) → slice_get (first ∷ frames) (length frames) ≡ Some top
-    → (below : List position.Frame) × (frames_onto (first ∷ frames) stack ≡ frame_of top ∷ below)
+pub top_of : (first : Frame) (frames : List Frame) (stack : List states.Frame) (top : Frame) → slice_get (first ∷ frames) (length frames) ≡ Some top
+    → (below : List states.Frame) × (frames_onto (first ∷ frames) stack ≡ frame_of top ∷ below)
 top_of first [] stack top is = let same : first ≡ top = cc in (stack, rw same refl)
 top_of first (next ∷ frames) stack top is = top_of next frames (frame_of first ∷ stack) top (last_of first next frames top is)

@@ -5,12 +5,12 @@ use Rattle.anvil_tree.specs.declared.file.Item.{Item}
 use Rattle.anvil_tree.specs.Tree.{File}
 use Rattle.anvil_tree.specs.View.{item_of}
 use Rattle.anvil_parser.specs.declared.counts.Counts.{Counts}
-use Rattle.anvil_parser.specs.declared.position.Position.{Position}
-use Rattle.anvil_parser.specs.declared.position.Position.TheVariants as file_position
-use Rattle.anvil_parser.specs.Position as position
-use Rattle.anvil_parser.specs.Limited.{Tally}
-use Rattle.anvil_parser.specs.Seen.{class_position_of}
-use Rattle.anvil_parser.specs.SeenProcess.{process_position_of}
+use Rattle.anvil_parser.specs.declared.state.State.{State}
+use Rattle.anvil_parser.specs.declared.state.State.TheVariants as file_state
+use Rattle.anvil_grammar.specs.State as states
+use Rattle.anvil_grammar.specs.Limited.{Tally}
+use Rattle.anvil_parser.specs.Seen.{class_state_of}
+use Rattle.anvil_parser.specs.SeenProcess.{process_state_of}
 
 abbrev pub tally_of : Counts → Tally
 tally_of counts = record {
@@ -28,8 +28,8 @@ tally_of counts = record {
 abbrev pub items_of : Vec Item Global → File
 items_of items = map item_of items.items
 
-abbrev pub position_of : Position → position.Position
-position_of (file_position.Between items) = position.between (items_of items)
-position_of (file_position.InClass items place) = position.in_class (items_of items) (class_position_of place)
-position_of (file_position.InProcess items place) = position.in_process (items_of items) (process_position_of place)
-position_of (file_position.Ended items) = position.ended (items_of items)
+abbrev pub state_of : State → states.State
+state_of (file_state.Between items) = states.between (items_of items)
+state_of (file_state.InClass items state) = states.in_class (items_of items) (class_state_of state)
+state_of (file_state.InProcess items state) = states.in_process (items_of items) (process_state_of state)
+state_of (file_state.Ended items) = states.ended (items_of items)

@@ -1,22 +1,20 @@
 //! Reads the acts and terms of a thread token by token.
 ghost use Rattle.std.specs.Prelude.{◌≡◌, ◌≢◌, ◌⊎◌, ◌∷◌, false, MatchResult};
-ghost use Rattle.anvil_parser.specs.Position as position;
+ghost use Rattle.anvil_grammar.specs.State as states;
 ghost use Rattle.anvil_tree.specs.Tree as tree;
 ghost use Rattle.anvil_tree.specs.View.{act_of, expr_of, term_of};
-ghost use Rattle.anvil_parser.specs.Step.{act_step, expression_step, moves, term_ends};
+ghost use Rattle.anvil_grammar.specs.Step.{act_step, expression_step, moves, term_ends};
 ghost use Rattle.anvil_parser.specs.Seen.{IsStep, label_of, step_of};
 ghost use Rattle.anvil_parser.specs.SeenThread.{is_link, joined_step, link_frame_of, linked, operand_frame_of, stack_of, term_frame_of, thread_of, value_frame_of};
 
-use crate::error::ParseErr;
 use crate::expect::expect;
 use crate::nodes::binary;
 use crate::room::{boxed, boxed_pair};
 use crate::stack::{Frame, Joint, Link, OperandFrame, Stack, TermFrame, ValueFrame};
 use crate::step::{Begun, Step};
-use crate::thread::{
-    ExprPosition, TermPosition, Thread, ThreadPosition, ThreadStep, goes, waits, within,
-};
+use crate::thread::{ExprState, TermState, Thread, ThreadState, ThreadStep, goes, waits, within};
 use crate::width::Label;
+use anvil_grammar::ParseErr;
 use anvil_lexer::{Mark, Name, Token, TokenKind};
 use anvil_tree::{Act, ActKind, Expr, Term};
 use std::alloc::Global;
@@ -25,14 +23,14 @@ use std::alloc::Global;
 fn linked(alloc: Global, link: Link, term: Term) -> Result<Term, ParseErr>
     ensures { MatchResult result
         (λ whole. term_of whole ≡ linked link.joint link.bound (act_of link.act) (term_of term))
-        (λ fault. fault ≡ ParseErr.NoMemory) }
+        (λ refusal. refusal ≡ ParseErr.NoMemory) }
 {
     match boxed(alloc, term) {
         Ok(term) => match link.joint {
             Joint::Follow => Ok(Term::Then(link.bound, link.act, term)),
             Joint::Beside => Ok(Term::Both(link.bound, link.act, term)),
         },
-        Err(fault) => Err(fault),
+        Err(refusal) => Err(refusal),
     }
 }
 
@@ -40,7 +38,7 @@ fn linked(alloc: Global, link: Link, term: Term) -> Result<Term, ParseErr>
 pub fn when(alloc: Global, at: u32, cond: Expr, first: Term) -> Result<Act, ParseErr>
     ensures { MatchResult result
         (λ act. act_of act ≡ tree.when at (expr_of cond) (term_of first))
-        (λ fault. fault ≡ ParseErr.NoMemory) }
+        (λ refusal. refusal ≡ ParseErr.NoMemory) }
 {
     match boxed(alloc, first) {
         Ok(yes) => Ok(Act {
@@ -51,7 +49,7 @@ pub fn when(alloc: Global, at: u32, cond: Expr, first: Term) -> Result<Act, Pars
                 no: None,
             },
         }),
-        Err(fault) => Err(fault),
+        Err(refusal) => Err(refusal),
     }
 }
 
@@ -59,7 +57,7 @@ pub fn when(alloc: Global, at: u32, cond: Expr, first: Term) -> Result<Act, Pars
 fn either(alloc: Global, at: u32, cond: Expr, first: Term, second: Term) -> Result<Act, ParseErr>
     ensures { MatchResult result
         (λ act. act_of act ≡ tree.either at (expr_of cond) (term_of first) (term_of second))
-        (λ fault. fault ≡ ParseErr.NoMemory) }
+        (λ refusal. refusal ≡ ParseErr.NoMemory) }
 {
     match boxed_pair(alloc, first, second) {
         Ok((yes, no)) => Ok(Act {
@@ -70,7 +68,7 @@ fn either(alloc: Global, at: u32, cond: Expr, first: Term, second: Term) -> Resu
                 no: Some(no),
             },
         }),
-        Err(fault) => Err(fault),
+        Err(refusal) => Err(refusal),
     }
 }
 
@@ -78,20 +76,20 @@ fn either(alloc: Global, at: u32, cond: Expr, first: Term, second: Term) -> Resu
 fn block(alloc: Global, at: u32, term: Term) -> Result<Act, ParseErr>
     ensures { MatchResult result
         (λ act. act_of act ≡ tree.block at (term_of term))
-        (λ fault. fault ≡ ParseErr.NoMemory) }
+        (λ refusal. refusal ≡ ParseErr.NoMemory) }
 {
     match boxed(alloc, term) {
         Ok(term) => Ok(Act {
             at,
             kind: ActKind::Block(term),
         }),
-        Err(fault) => Err(fault),
+        Err(refusal) => Err(refusal),
     }
 }
 
 // Lets a value go: the token cannot stand behind it.
 fn refuse<T: Drop>(_value: T, token: &Token) -> ThreadStep
-    ensures { MatchResult result (λ _. ⊥) (λ fault. fault ≡ ParseErr.Unexpected token.now.at) }
+    ensures { MatchResult result (λ _. ⊥) (λ refusal. refusal ≡ ParseErr.Unexpected token.now.at) }
 {
     Err(ParseErr::Unexpected { at: token.at })
 }
@@ -106,7 +104,7 @@ fn term_ends(alloc: Global, stack: Stack, term: Term, token: &Token) -> ThreadSt
     while let Some(link) = stack.pop_link() {
         match linked(alloc, link, term) {
             Ok(whole) => term = whole,
-            Err(fault) => return Err(fault),
+            Err(refusal) => return Err(refusal),
         }
     }
     side_ends(alloc, stack, term, token)
@@ -132,16 +130,16 @@ fn side_ends(alloc: Global, stack: Stack, term: Term, token: &Token) -> ThreadSt
 fn part_ends(alloc: Global, stack: Stack, part: TermFrame, term: Term) -> ThreadStep
     ensures { MatchResult result
         (λ step. step_of thread_of term_of step ≡ term_ends (term_frame_of part ∷ stack_of stack) (term_of term))
-        (λ fault. fault ≡ ParseErr.NoMemory) }
+        (λ refusal. refusal ≡ ParseErr.NoMemory) }
 {
     let act = match part {
         TermFrame::FirstSide { at, condition } => {
-            let position = TermPosition::AfterFirst {
+            let state = TermState::AfterFirst {
                 at,
                 condition,
                 first: term,
             };
-            return goes(Begun::Nothing, stack, ThreadPosition::Term(position));
+            return goes(Begun::Nothing, stack, ThreadState::Term(state));
         }
         TermFrame::SecondSide {
             at,
@@ -154,9 +152,9 @@ fn part_ends(alloc: Global, stack: Stack, part: TermFrame, term: Term) -> Thread
         Ok(act) => goes(
             Begun::Nothing,
             stack,
-            ThreadPosition::Term(TermPosition::AfterAct(act)),
+            ThreadState::Term(TermState::AfterAct(act)),
         ),
-        Err(fault) => Err(fault),
+        Err(refusal) => Err(refusal),
     }
 }
 
@@ -178,7 +176,8 @@ fn joined_step(
     act: Act,
     token: &Token,
 ) -> ThreadStep
-    ensures { IsStep thread_of term_of token.now (joined_step bound (stack_of stack) (act_of act) token.now.kind) result }
+    ensures { IsStep thread_of term_of token.now
+        (joined_step bound (stack_of stack) (act_of act) token.now.kind) result }
 {
     match &token.kind {
         TokenKind::Mark(Mark::Chain) => awaits_term(
@@ -208,20 +207,21 @@ fn joined_step(
 // An act waits for the term behind it.
 fn awaits_term(stack: Stack, link: Link) -> ThreadStep
     ensures { MatchResult result
-        (λ step. step_of thread_of term_of step ≡ moves (link_frame_of link ∷ stack_of stack) position.term_wanted)
-        (λ fault. fault ≡ ParseErr.NoMemory) }
+        (λ step. step_of thread_of term_of step ≡ moves (link_frame_of link ∷ stack_of stack) states.term_wanted)
+        (λ refusal. refusal ≡ ParseErr.NoMemory) }
 {
     waits(
         Begun::Nothing,
         stack,
         Frame::Link(link),
-        ThreadPosition::Term(TermPosition::Wanted),
+        ThreadState::Term(TermState::Wanted),
     )
 }
 
 /// An expression is whole, and the frames that bind it more strongly than the token have taken it.
 pub fn expression_step(alloc: Global, stack: Stack, expr: Expr, token: &Token) -> ThreadStep
-    ensures { IsStep thread_of term_of token.now (expression_step (stack_of stack) (expr_of expr) token.now.kind) result }
+    ensures { IsStep thread_of term_of token.now
+        (expression_step (stack_of stack) (expr_of expr) token.now.kind) result }
 {
     let mut stack = stack;
     match stack.pop() {
@@ -242,7 +242,8 @@ fn part_step(
     expr: Expr,
     token: &Token,
 ) -> ThreadStep
-    ensures { IsStep thread_of term_of token.now (expression_step (operand_frame_of part ∷ stack_of stack) (expr_of expr) token.now.kind) result }
+    ensures { IsStep thread_of term_of token.now
+        (expression_step (operand_frame_of part ∷ stack_of stack) (expr_of expr) token.now.kind) result }
 {
     match part {
         OperandFrame::Grouping => closes(stack, expr, token),
@@ -260,7 +261,7 @@ fn part_step(
             first,
         } => match binary(alloc, at, operator, first, expr) {
             Ok(whole) => closes(stack, whole, token),
-            Err(fault) => Err(fault),
+            Err(refusal) => Err(refusal),
         },
         OperandFrame::Choosing { at, condition } => {
             let frame = OperandFrame::ChoosingSecond {
@@ -283,32 +284,36 @@ fn part_step(
 // `)` closes an operand.
 fn closes(stack: Stack, operand: Expr, token: &Token) -> ThreadStep
     ensures { MatchResult result
-        (λ step. (token.now.kind ≡ TokenKind.Mark Mark.CloseParen) × (step_of thread_of term_of step ≡ moves (stack_of stack) (position.after_operand (expr_of operand))))
-        (λ fault. (token.now.kind ≢ TokenKind.Mark Mark.CloseParen) × (fault ≡ ParseErr.Unexpected token.now.at)) }
+        (λ step. (token.now.kind ≡ TokenKind.Mark Mark.CloseParen)
+        × (step_of thread_of term_of step ≡ moves (stack_of stack) (states.after_operand (expr_of operand))))
+        (λ refusal. (token.now.kind ≢ TokenKind.Mark Mark.CloseParen) × (refusal ≡ ParseErr.Unexpected token.now.at)) }
 {
-    let position = ThreadPosition::Expr(ExprPosition::AfterOperand(operand));
-    expect(token, Mark::CloseParen, Thread { stack, position })
+    let state = ThreadState::Expr(ExprState::AfterOperand(operand));
+    expect(token, Mark::CloseParen, Thread { stack, state })
 }
 
 // A part of an expression waits for an expression behind the mark.
 fn awaits_operand(stack: Stack, frame: OperandFrame, token: &Token, mark: Mark) -> ThreadStep
     ensures { MatchResult result
-        (λ step. (token.now.kind ≡ TokenKind.Mark mark) × (step_of thread_of term_of step ≡ moves (operand_frame_of frame ∷ stack_of stack) position.operand_wanted))
-        (λ fault. (fault ≡ ParseErr.NoMemory) ⊎ ((token.now.kind ≢ TokenKind.Mark mark) × (fault ≡ ParseErr.Unexpected token.now.at))) }
+        (λ step. (token.now.kind ≡ TokenKind.Mark mark)
+        × (step_of thread_of term_of step ≡ moves (operand_frame_of frame ∷ stack_of stack) states.operand_wanted))
+        (λ refusal. (refusal ≡ ParseErr.NoMemory)
+        ⊎ ((token.now.kind ≢ TokenKind.Mark mark) × (refusal ≡ ParseErr.Unexpected token.now.at))) }
 {
     match within(
         stack,
         Frame::Operand(frame),
-        ThreadPosition::Expr(ExprPosition::OperandWanted),
+        ThreadState::Expr(ExprState::OperandWanted),
     ) {
         Ok(thread) => expect(token, mark, thread),
-        Err(fault) => Err(fault),
+        Err(refusal) => Err(refusal),
     }
 }
 
 // The expression of an act is whole.
 fn value_step(alloc: Global, stack: Stack, act: ValueFrame, expr: Expr, token: &Token) -> ThreadStep
-    ensures { IsStep thread_of term_of token.now (expression_step (value_frame_of act ∷ stack_of stack) (expr_of expr) token.now.kind) result }
+    ensures { IsStep thread_of term_of token.now
+        (expression_step (value_frame_of act ∷ stack_of stack) (expr_of expr) token.now.kind) result }
 {
     match act {
         ValueFrame::Setting { at, register } => act_step(
@@ -322,10 +327,8 @@ fn value_step(alloc: Global, stack: Stack, act: ValueFrame, expr: Expr, token: &
             endpoint,
             message,
         } => {
-            let position = ThreadPosition::Term(TermPosition::AfterAct(send(
-                at, endpoint, message, expr,
-            )));
-            expect(token, Mark::CloseParen, Thread { stack, position })
+            let state = ThreadState::Term(TermState::AfterAct(send(at, endpoint, message, expr)));
+            expect(token, Mark::CloseParen, Thread { stack, state })
         }
         ValueFrame::Deciding { at } => decides(stack, at, expr, token),
         ValueFrame::Evaluating => {
@@ -340,12 +343,13 @@ fn value_step(alloc: Global, stack: Stack, act: ValueFrame, expr: Expr, token: &
 
 // The condition of an `if` is whole.
 fn decides(stack: Stack, at: u32, condition: Expr, token: &Token) -> ThreadStep
-    ensures { IsStep thread_of term_of token.now (expression_step (position.deciding at ∷ stack_of stack) (expr_of condition) token.now.kind) result }
+    ensures { IsStep thread_of term_of token.now
+        (expression_step (states.deciding at ∷ stack_of stack) (expr_of condition) token.now.kind) result }
 {
     let frame = Frame::Term(TermFrame::FirstSide { at, condition });
-    match within(stack, frame, ThreadPosition::Term(TermPosition::Wanted)) {
+    match within(stack, frame, ThreadState::Term(TermState::Wanted)) {
         Ok(thread) => expect(token, Mark::OpenBrace, thread),
-        Err(fault) => Err(fault),
+        Err(refusal) => Err(refusal),
     }
 }
 

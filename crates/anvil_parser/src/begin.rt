@@ -2,23 +2,22 @@
 ghost use Rattle.std.specs.Prelude.{◌≡◌, ◌≢◌, ◌⊎◌, ◌∷◌, [], List, false, MatchOption, MatchResult};
 ghost use Rattle.anvil_tree.specs.Tree as tree;
 ghost use Rattle.anvil_tree.specs.View.{act_of, expr_of, term_of};
-ghost use Rattle.anvil_parser.specs.Position as position;
-ghost use Rattle.anvil_parser.specs.Step.{at_position, begin_step, begin_step_by, else_step, onward, inner_step, term_step, thread_step, thread_step_at};
+ghost use Rattle.anvil_grammar.specs.State as states;
+ghost use Rattle.anvil_grammar.specs.Step.{at_state, begin_step, begin_step_by, else_step, onward, inner_step, term_step, thread_step, thread_step_at};
 ghost use Rattle.anvil_parser.specs.Seen.{IsStep, begin_of, label_of, step_of};
-ghost use Rattle.anvil_parser.specs.SeenThread.{act_position_of, begins_by_word, opened_by, stack_of, term_position_of, thread_of};
+ghost use Rattle.anvil_parser.specs.SeenThread.{act_state_of, begins_by_word, opened_by, stack_of, term_state_of, thread_of};
 
 use crate::act::{act_step, when};
-use crate::error::{Counted, ParseErr};
 use crate::expect::{expect, is_key, word};
 use crate::expr::{expr_step, operand_step};
 use crate::inside::in_act_step;
 use crate::stack::{Frame, Stack, TermFrame, ValueFrame};
 use crate::step::{Begin, Begun, Step};
 use crate::thread::{
-    ActPosition, ExprPosition, TermPosition, Thread, ThreadPosition, ThreadStep, goes, waits,
-    within,
+    ActState, ExprState, TermState, Thread, ThreadState, ThreadStep, goes, waits, within,
 };
 use crate::width::Label;
+use anvil_grammar::{Counted, ParseErr};
 use anvil_lexer::{Keyword, Mark, Name, Token, TokenKind};
 use anvil_tree::{Act, ActKind, Expr, Term};
 use std::alloc::Global;
@@ -26,7 +25,7 @@ use std::alloc::Global;
 /// How an act begins that is no expression.
 #[derive(Drop)]
 enum Opening {
-    Inside(ActPosition),
+    Inside(ActState),
     Condition { at: u32 },
     Block { at: u32 },
 }
@@ -35,14 +34,15 @@ enum Opening {
 fn opening_at(token: &Token) -> Option<Opening>
     ensures { MatchOption result
         (begins_by_word token.now.kind ≡ false)
-        (λ opening. (stack : List position.Frame) → begin_step_by stack token.now token.now.kind ≡ opened_by opening stack) }
+        (λ opening. (stack : List states.Frame)
+        → begin_step_by stack token.now token.now.kind ≡ opened_by opening stack) }
 {
     let at = token.at;
     match &token.kind {
-        TokenKind::Key(Keyword::Cycle) => Some(Opening::Inside(ActPosition::CycleCount { at })),
-        TokenKind::Key(Keyword::Set) => Some(Opening::Inside(ActPosition::SetRegister { at })),
-        TokenKind::Key(Keyword::Send) => Some(Opening::Inside(ActPosition::SendEndpoint { at })),
-        TokenKind::Key(Keyword::Recv) => Some(Opening::Inside(ActPosition::ReceiveEndpoint { at })),
+        TokenKind::Key(Keyword::Cycle) => Some(Opening::Inside(ActState::CycleCount { at })),
+        TokenKind::Key(Keyword::Set) => Some(Opening::Inside(ActState::SetRegister { at })),
+        TokenKind::Key(Keyword::Send) => Some(Opening::Inside(ActState::SendEndpoint { at })),
+        TokenKind::Key(Keyword::Recv) => Some(Opening::Inside(ActState::ReceiveEndpoint { at })),
         TokenKind::Key(Keyword::If) => Some(Opening::Condition { at }),
         TokenKind::Mark(Mark::OpenBrace) => Some(Opening::Block { at }),
         _ => None,
@@ -59,14 +59,14 @@ fn begin_step(stack: Stack, token: &Token) -> ThreadStep
         at: token.at,
     };
     match opening_at(token) {
-        Some(Opening::Inside(position)) => goes_in(act, stack, position),
+        Some(Opening::Inside(state)) => goes_in(act, stack, state),
         Some(Opening::Condition { at }) => {
             let frame = Frame::Value(ValueFrame::Deciding { at });
             waits(
                 Begun::One(act),
                 stack,
                 frame,
-                ThreadPosition::Expr(ExprPosition::OperandWanted),
+                ThreadState::Expr(ExprState::OperandWanted),
             )
         }
         Some(Opening::Block { at }) => {
@@ -75,33 +75,35 @@ fn begin_step(stack: Stack, token: &Token) -> ThreadStep
                 Begun::One(act),
                 stack,
                 frame,
-                ThreadPosition::Term(TermPosition::Wanted),
+                ThreadState::Term(TermState::Wanted),
             )
         }
         None => match evaluating(stack) {
             Ok(stack) => operand_step(Some(act), stack, token),
-            Err(fault) => Err(fault),
+            Err(refusal) => Err(refusal),
         },
     }
 }
 
 // Goes on inside an act.
-fn goes_in(act: Begin, stack: Stack, position: ActPosition) -> ThreadStep
+fn goes_in(act: Begin, stack: Stack, state: ActState) -> ThreadStep
     ensures { MatchResult result
-        (λ step. step_of thread_of term_of step ≡ onward (begin_of act ∷ []) (at_position (stack_of stack) (act_position_of position)))
+        (λ step. step_of thread_of term_of step
+        ≡ onward (begin_of act ∷ []) (at_state (stack_of stack) (act_state_of state)))
         (λ _. ⊥) }
 {
-    goes(Begun::One(act), stack, ThreadPosition::Act(position))
+    goes(Begun::One(act), stack, ThreadState::Act(state))
 }
 
 // The frames with an act on top that is an expression.
 fn evaluating(stack: Stack) -> Result<Stack, ParseErr>
-    ensures { MatchResult result (λ found. stack_of found ≡ position.evaluating ∷ stack_of stack) (λ fault. fault ≡ ParseErr.NoMemory) }
+    ensures { MatchResult result (λ found. stack_of found ≡ states.evaluating ∷ stack_of stack)
+        (λ refusal. refusal ≡ ParseErr.NoMemory) }
 {
     let mut stack = stack;
     match stack.push(Frame::Value(ValueFrame::Evaluating)) {
         Ok(()) => Ok(stack),
-        Err(fault) => Err(fault),
+        Err(refusal) => Err(refusal),
     }
 }
 
@@ -110,40 +112,38 @@ fn term_step(stack: Stack, token: &Token) -> ThreadStep
     ensures { IsStep thread_of term_of token.now (term_step (stack_of stack) token.now token.now.kind) result }
 {
     if is_key(token, Keyword::Let) {
-        return goes(
-            Begun::Nothing,
-            stack,
-            ThreadPosition::Term(TermPosition::LetName),
-        );
+        return goes(Begun::Nothing, stack, ThreadState::Term(TermState::LetName));
     }
     begin_step(stack, token)
 }
 
 // The variable of a `let`.
 fn let_step(stack: Stack, token: &Token) -> ThreadStep
-    ensures { IsStep thread_of term_of token.now (inner_step (stack_of stack) position.let_name token.now token.now.kind) result }
+    ensures { IsStep thread_of term_of token.now
+        (inner_step (stack_of stack) states.let_name token.now token.now.kind) result }
 {
     match word(token) {
         Ok(label) => goes(
             Begun::Nothing,
             stack,
-            ThreadPosition::Term(TermPosition::LetEquals(label.name)),
+            ThreadState::Term(TermState::LetEquals(label.name)),
         ),
-        Err(fault) => Err(fault),
+        Err(refusal) => Err(refusal),
     }
 }
 
 // `=` behind the variable of a `let`.
 fn equals_step(stack: Stack, name: Name, token: &Token) -> ThreadStep
-    ensures { IsStep thread_of term_of token.now (inner_step (stack_of stack) (position.let_equals name) token.now token.now.kind) result }
+    ensures { IsStep thread_of term_of token.now
+        (inner_step (stack_of stack) (states.let_equals name) token.now token.now.kind) result }
 {
     match within(
         stack,
         Frame::Binding(name),
-        ThreadPosition::Term(TermPosition::ActWanted),
+        ThreadState::Term(TermState::ActWanted),
     ) {
         Ok(thread) => expect(token, Mark::Equals, thread),
-        Err(fault) => Err(fault),
+        Err(refusal) => Err(refusal),
     }
 }
 
@@ -156,20 +156,21 @@ fn else_step(
     first: Term,
     token: &Token,
 ) -> ThreadStep
-    ensures { IsStep thread_of term_of token.now (else_step (stack_of stack) at (expr_of condition) (term_of first) token.now.kind) result }
+    ensures { IsStep thread_of term_of token.now
+        (else_step (stack_of stack) at (expr_of condition) (term_of first) token.now.kind) result }
 {
     match &token.kind {
         TokenKind::Key(Keyword::Else) => {
-            let position = TermPosition::ElseOpening {
+            let state = TermState::ElseOpening {
                 at,
                 condition,
                 first,
             };
-            goes(Begun::Nothing, stack, ThreadPosition::Term(position))
+            goes(Begun::Nothing, stack, ThreadState::Term(state))
         }
         _ => match when(alloc, at, condition, first) {
             Ok(act) => act_step(alloc, stack, act, token),
-            Err(fault) => Err(fault),
+            Err(refusal) => Err(refusal),
         },
     }
 }
@@ -182,35 +183,38 @@ fn second_side_step(
     first: Term,
     token: &Token,
 ) -> ThreadStep
-    ensures { IsStep thread_of term_of token.now (inner_step (stack_of stack) (position.else_opening at (expr_of condition) (term_of first)) token.now token.now.kind) result }
+    ensures { IsStep thread_of term_of token.now
+        (inner_step (stack_of stack) (states.else_opening at (expr_of condition) (term_of first))
+        token.now token.now.kind) result }
 {
     let frame = Frame::Term(TermFrame::SecondSide {
         at,
         condition,
         first,
     });
-    match within(stack, frame, ThreadPosition::Term(TermPosition::Wanted)) {
+    match within(stack, frame, ThreadState::Term(TermState::Wanted)) {
         Ok(thread) => expect(token, Mark::OpenBrace, thread),
-        Err(fault) => Err(fault),
+        Err(refusal) => Err(refusal),
     }
 }
 
 // Reads on in a term.
-fn in_term_step(alloc: Global, stack: Stack, position: TermPosition, token: &Token) -> ThreadStep
-    ensures { IsStep thread_of term_of token.now (thread_step_at (stack_of stack) (term_position_of position) token.now) result }
+fn in_term_step(alloc: Global, stack: Stack, state: TermState, token: &Token) -> ThreadStep
+    ensures { IsStep thread_of term_of token.now
+        (thread_step_at (stack_of stack) (term_state_of state) token.now) result }
 {
-    match position {
-        TermPosition::Wanted => term_step(stack, token),
-        TermPosition::LetName => let_step(stack, token),
-        TermPosition::LetEquals(name) => equals_step(stack, name, token),
-        TermPosition::ActWanted => begin_step(stack, token),
-        TermPosition::AfterAct(act) => act_step(alloc, stack, act, token),
-        TermPosition::AfterFirst {
+    match state {
+        TermState::Wanted => term_step(stack, token),
+        TermState::LetName => let_step(stack, token),
+        TermState::LetEquals(name) => equals_step(stack, name, token),
+        TermState::ActWanted => begin_step(stack, token),
+        TermState::AfterAct(act) => act_step(alloc, stack, act, token),
+        TermState::AfterFirst {
             at,
             condition,
             first,
         } => else_step(alloc, stack, at, condition, first, token),
-        TermPosition::ElseOpening {
+        TermState::ElseOpening {
             at,
             condition,
             first,
@@ -222,10 +226,10 @@ fn in_term_step(alloc: Global, stack: Stack, position: TermPosition, token: &Tok
 pub fn thread_step(alloc: Global, thread: Thread, token: &Token) -> ThreadStep
     ensures { IsStep thread_of term_of token.now (thread_step (thread_of thread) token.now) result }
 {
-    let Thread { stack, position } = thread;
-    match position {
-        ThreadPosition::Term(position) => in_term_step(alloc, stack, position, token),
-        ThreadPosition::Act(position) => in_act_step(stack, position, token),
-        ThreadPosition::Expr(position) => expr_step(alloc, stack, position, token),
+    let Thread { stack, state } = thread;
+    match state {
+        ThreadState::Term(state) => in_term_step(alloc, stack, state, token),
+        ThreadState::Act(state) => in_act_step(stack, state, token),
+        ThreadState::Expr(state) => expr_step(alloc, stack, state, token),
     }
 }

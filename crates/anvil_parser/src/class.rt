@@ -1,26 +1,26 @@
 //! Reads a class token by token, from behind `chan` to its `}`.
 ghost use Rattle.std.specs.Prelude.{◌≡◌, ◌++◌, ◌∷◌, [], IfOk, IfErr, MatchResult};
 ghost use Rattle.anvil_tree.specs.View.{class_of};
-ghost use Rattle.anvil_parser.specs.Words.{side_of};
-ghost use Rattle.anvil_parser.specs.Step.{class_of_draft, class_step, message_step, side_step, with_message};
-ghost use Rattle.anvil_parser.specs.Seen.{IsStep, class_draft_of, class_position_of, message_position_of, same};
+ghost use Rattle.anvil_grammar.specs.Words.{side_of};
+ghost use Rattle.anvil_grammar.specs.Step.{class_of_draft, class_step, message_step, side_step, with_message};
+ghost use Rattle.anvil_parser.specs.Seen.{IsStep, class_draft_of, class_state_of, message_state_of, same};
 
-use crate::error::{Counted, ParseErr};
 use crate::expect::{expect, side, word};
 use crate::room::push;
 use crate::step::{Begin, Begun, Step};
-use crate::width::{Label, Width, WidthPosition, width_step};
+use crate::width::{Label, Width, WidthState, width_step};
+use anvil_grammar::{Counted, ParseErr};
 use anvil_lexer::{Mark, Token, TokenKind};
 use anvil_tree::{Chan, LifeText, Message, Side};
 use std::alloc::Global;
 
 /// What is wanted next in a message, behind its side.
 #[derive(Drop)]
-pub enum MessagePosition {
+pub enum MessageState {
     Name(Side),
     Colon(Side, Label),
     Opening(Side, Label),
-    Width(Side, Label, WidthPosition),
+    Width(Side, Label, WidthState),
     At(Side, Label, Width),
     Life(Side, Label, Width),
     Count(Side, Label, Width),
@@ -36,18 +36,26 @@ pub struct ClassDraft {
 
 /// What is wanted next in a class, behind `chan`.
 #[derive(Drop)]
-pub enum ClassPosition {
+pub enum ClassState {
     Name,
     Opening(Label),
     FirstMessage(ClassDraft),
-    InMessage(ClassDraft, MessagePosition),
+    InMessage(ClassDraft, MessageState),
     AfterMessage(ClassDraft),
     AfterComma(ClassDraft),
 }
 
 // The message whose parts have been read.
 fn message_of(toward: Side, label: Label, width: Width, life: LifeText, life_at: u32) -> Message
-    ensures { result ≡ record { toward = toward; name = label.name; at = label.at; width = width.width; width_at = width.width_at; life = life; life_at = life_at } }
+    ensures { result ≡ record {
+      toward = toward;
+      name = label.name;
+      at = label.at;
+      width = width.width;
+      width_at = width.width_at;
+      life = life;
+      life_at = life_at;
+    } }
 {
     Message {
         toward,
@@ -62,53 +70,53 @@ fn message_of(toward: Side, label: Label, width: Width, life: LifeText, life_at:
 
 /// Reads on in a message.
 pub fn message_step(
-    position: MessagePosition,
+    state: MessageState,
     token: &Token,
-) -> Result<Step<MessagePosition, Message>, ParseErr>
-    ensures { IsStep message_position_of same token.now (message_step (message_position_of position) token.now) result }
+) -> Result<Step<MessageState, Message>, ParseErr>
+    ensures { IsStep message_state_of same token.now (message_step (message_state_of state) token.now) result }
 {
-    match position {
-        MessagePosition::Name(side) => match word(token) {
-            Ok(label) => Ok(Step::Onward(Begun::Nothing, MessagePosition::Colon(side, label))),
-            Err(fault) => Err(fault),
+    match state {
+        MessageState::Name(side) => match word(token) {
+            Ok(label) => Ok(Step::Onward(Begun::Nothing, MessageState::Colon(side, label))),
+            Err(refusal) => Err(refusal),
         },
-        MessagePosition::Colon(side, label) => expect(
+        MessageState::Colon(side, label) => expect(
             token,
             Mark::Colon,
-            MessagePosition::Opening(side, label),
+            MessageState::Opening(side, label),
         ),
-        MessagePosition::Opening(side, label) => {
+        MessageState::Opening(side, label) => {
             expect(
                 token,
                 Mark::OpenParen,
-                MessagePosition::Width(side, label, WidthPosition::Logic),
+                MessageState::Width(side, label, WidthState::Logic),
             )
         }
-        MessagePosition::Width(side, label, place) => match width_step(place, token) {
-            Ok(Step::Onward(_, place)) => Ok(Step::Onward(
+        MessageState::Width(side, label, state) => match width_step(state, token) {
+            Ok(Step::Onward(_, state)) => Ok(Step::Onward(
                 Begun::Nothing,
-                MessagePosition::Width(side, label, place),
+                MessageState::Width(side, label, state),
             )),
             Ok(Step::Finished(width)) => Ok(Step::Onward(
                 Begun::Nothing,
-                MessagePosition::At(side, label, width),
+                MessageState::At(side, label, width),
             )),
-            Err(fault) => Err(fault),
+            Err(refusal) => Err(refusal),
         },
-        MessagePosition::At(side, label, width) => expect(
+        MessageState::At(side, label, width) => expect(
             token,
             Mark::At,
-            MessagePosition::Life(side, label, width),
+            MessageState::Life(side, label, width),
         ),
-        MessagePosition::Life(side, label, width) => life_step(side, label, width, token),
-        MessagePosition::Count(side, label, width) => match &token.kind {
+        MessageState::Life(side, label, width) => life_step(side, label, width, token),
+        MessageState::Count(side, label, width) => match &token.kind {
             TokenKind::Number(count) => {
                 let message = message_of(side, label, width, LifeText::Cycles(*count), token.at);
-                Ok(Step::Onward(Begun::Nothing, MessagePosition::Closing(message)))
+                Ok(Step::Onward(Begun::Nothing, MessageState::Closing(message)))
             }
             _ => Err(ParseErr::Unexpected { at: token.at }),
         },
-        MessagePosition::Closing(message) => match &token.kind {
+        MessageState::Closing(message) => match &token.kind {
             TokenKind::Mark(Mark::CloseParen) => Ok(Step::Finished(message)),
             _ => Err(ParseErr::Unexpected { at: token.at }),
         },
@@ -120,17 +128,18 @@ fn life_step(
     label: Label,
     width: Width,
     token: &Token,
-) -> Result<Step<MessagePosition, Message>, ParseErr>
-    ensures { IsStep message_position_of same token.now (message_step (message_position_of (MessagePosition.Life side label width)) token.now) result }
+) -> Result<Step<MessageState, Message>, ParseErr>
+    ensures { IsStep message_state_of same token.now
+        (message_step (message_state_of (MessageState.Life side label width)) token.now) result }
 {
     match &token.kind {
         TokenKind::Mark(Mark::Hash) => Ok(Step::Onward(
             Begun::Nothing,
-            MessagePosition::Count(side, label, width),
+            MessageState::Count(side, label, width),
         )),
         TokenKind::Word(name) => {
             let message = message_of(side, label, width, LifeText::Until(name.copy()), token.at);
-            Ok(Step::Onward(Begun::Nothing, MessagePosition::Closing(message)))
+            Ok(Step::Onward(Begun::Nothing, MessageState::Closing(message)))
         }
         _ => Err(ParseErr::Unexpected { at: token.at }),
     }
@@ -149,7 +158,7 @@ impl ClassDraft {
     // With one message more.
     fn with(self, message: Message) -> Result<ClassDraft, ParseErr>
         ensures drafted { IfOk result (λ draft. class_draft_of draft ≡ with_message (class_draft_of self) message) }
-        ensures full { IfErr result (λ fault. fault ≡ ParseErr.NoMemory) }
+        ensures full { IfErr result (λ refusal. refusal ≡ ParseErr.NoMemory) }
     {
         let ClassDraft {
             label,
@@ -157,14 +166,15 @@ impl ClassDraft {
         } = self;
         match push(&mut messages, message) {
             Ok(()) => Ok(ClassDraft { label, messages }),
-            Err(fault) => Err(fault),
+            Err(refusal) => Err(refusal),
         }
     }
 }
 
 // A message begins with its side.
-fn side_step(draft: ClassDraft, token: &Token) -> Result<Step<ClassPosition, Chan>, ParseErr>
-    ensures { IsStep class_position_of class_of token.now (side_step (class_draft_of draft) token.now (side_of token.now.kind)) result }
+fn side_step(draft: ClassDraft, token: &Token) -> Result<Step<ClassState, Chan>, ParseErr>
+    ensures { IsStep class_state_of class_of token.now
+        (side_step (class_draft_of draft) token.now (side_of token.now.kind)) result }
 {
     match side(token) {
         Some(side) => {
@@ -174,7 +184,7 @@ fn side_step(draft: ClassDraft, token: &Token) -> Result<Step<ClassPosition, Cha
             };
             Ok(Step::Onward(
                 Begun::One(begin),
-                ClassPosition::InMessage(draft, MessagePosition::Name(side)),
+                ClassState::InMessage(draft, MessageState::Name(side)),
             ))
         }
         None => Err(ParseErr::Unexpected { at: token.at }),
@@ -184,35 +194,34 @@ fn side_step(draft: ClassDraft, token: &Token) -> Result<Step<ClassPosition, Cha
 // Reads on in a message of a class.
 fn in_message_step(
     draft: ClassDraft,
-    position: MessagePosition,
+    state: MessageState,
     token: &Token,
-) -> Result<Step<ClassPosition, Chan>, ParseErr>
-    ensures { IsStep class_position_of class_of token.now (class_step (class_position_of (ClassPosition.InMessage draft position)) token.now) result }
+) -> Result<Step<ClassState, Chan>, ParseErr>
+    ensures { IsStep class_state_of class_of token.now
+        (class_step (class_state_of (ClassState.InMessage draft state)) token.now) result }
 {
-    match message_step(position, token) {
-        Ok(Step::Onward(begun, position)) => Ok(Step::Onward(
+    match message_step(state, token) {
+        Ok(Step::Onward(begun, state)) => Ok(Step::Onward(
             begun,
-            ClassPosition::InMessage(draft, position),
+            ClassState::InMessage(draft, state),
         )),
         Ok(Step::Finished(message)) => match draft.with(message) {
-            Ok(draft) => Ok(Step::Onward(Begun::Nothing, ClassPosition::AfterMessage(draft))),
-            Err(fault) => Err(fault),
+            Ok(draft) => Ok(Step::Onward(Begun::Nothing, ClassState::AfterMessage(draft))),
+            Err(refusal) => Err(refusal),
         },
-        Err(fault) => Err(fault),
+        Err(refusal) => Err(refusal),
     }
 }
 
 // Behind a message.
-fn after_message_step(
-    draft: ClassDraft,
-    token: &Token,
-) -> Result<Step<ClassPosition, Chan>, ParseErr>
-    ensures { IsStep class_position_of class_of token.now (class_step (class_position_of (ClassPosition.AfterMessage draft)) token.now) result }
+fn after_message_step(draft: ClassDraft, token: &Token) -> Result<Step<ClassState, Chan>, ParseErr>
+    ensures { IsStep class_state_of class_of token.now
+        (class_step (class_state_of (ClassState.AfterMessage draft)) token.now) result }
 {
     match &token.kind {
         TokenKind::Mark(Mark::Comma) => Ok(Step::Onward(
             Begun::Nothing,
-            ClassPosition::AfterComma(draft),
+            ClassState::AfterComma(draft),
         )),
         TokenKind::Mark(Mark::CloseBrace) => Ok(Step::Finished(draft.into_class())),
         _ => Err(ParseErr::Unexpected { at: token.at }),
@@ -220,8 +229,9 @@ fn after_message_step(
 }
 
 // Behind a comma, which may be the last one.
-fn after_comma_step(draft: ClassDraft, token: &Token) -> Result<Step<ClassPosition, Chan>, ParseErr>
-    ensures { IsStep class_position_of class_of token.now (class_step (class_position_of (ClassPosition.AfterComma draft)) token.now) result }
+fn after_comma_step(draft: ClassDraft, token: &Token) -> Result<Step<ClassState, Chan>, ParseErr>
+    ensures { IsStep class_state_of class_of token.now
+        (class_step (class_state_of (ClassState.AfterComma draft)) token.now) result }
 {
     match &token.kind {
         TokenKind::Mark(Mark::CloseBrace) => Ok(Step::Finished(draft.into_class())),
@@ -232,26 +242,26 @@ fn after_comma_step(draft: ClassDraft, token: &Token) -> Result<Step<ClassPositi
 /// Reads on in a class.
 pub fn class_step(
     alloc: Global,
-    position: ClassPosition,
+    state: ClassState,
     token: &Token,
-) -> Result<Step<ClassPosition, Chan>, ParseErr>
-    ensures { IsStep class_position_of class_of token.now (class_step (class_position_of position) token.now) result }
+) -> Result<Step<ClassState, Chan>, ParseErr>
+    ensures { IsStep class_state_of class_of token.now (class_step (class_state_of state) token.now) result }
 {
-    match position {
-        ClassPosition::Name => match word(token) {
-            Ok(label) => Ok(Step::Onward(Begun::Nothing, ClassPosition::Opening(label))),
-            Err(fault) => Err(fault),
+    match state {
+        ClassState::Name => match word(token) {
+            Ok(label) => Ok(Step::Onward(Begun::Nothing, ClassState::Opening(label))),
+            Err(refusal) => Err(refusal),
         },
-        ClassPosition::Opening(label) => {
+        ClassState::Opening(label) => {
             let draft = ClassDraft {
                 label,
                 messages: Vec::new(alloc),
             };
-            expect(token, Mark::OpenBrace, ClassPosition::FirstMessage(draft))
+            expect(token, Mark::OpenBrace, ClassState::FirstMessage(draft))
         }
-        ClassPosition::FirstMessage(draft) => side_step(draft, token),
-        ClassPosition::InMessage(draft, position) => in_message_step(draft, position, token),
-        ClassPosition::AfterMessage(draft) => after_message_step(draft, token),
-        ClassPosition::AfterComma(draft) => after_comma_step(draft, token),
+        ClassState::FirstMessage(draft) => side_step(draft, token),
+        ClassState::InMessage(draft, state) => in_message_step(draft, state, token),
+        ClassState::AfterMessage(draft) => after_message_step(draft, token),
+        ClassState::AfterComma(draft) => after_comma_step(draft, token),
     }
 }

@@ -1,13 +1,14 @@
-//! Keeps a reading within its limits: how many brackets are open, and how many things of each kind their present owner has.
+//! Keeps a reading within its limits: how many brackets are open, and how many things of each kind their present owner
+//! has.
 ghost use Rattle.std.specs.Prelude.{◌≡◌, ◌<◌, ◌∷◌, [], true, MatchResult};
-ghost use Rattle.anvil_parser.specs.Limited.{admitted, count_of, empty_tally, is_opening, opened, past_limit, with_one, within_limits};
-ghost use Rattle.anvil_parser.specs.Limits.{most_open, open_after};
-ghost use Rattle.anvil_parser.specs.Begun.{most};
+ghost use Rattle.anvil_grammar.specs.Limited.{admitted, count_of, empty_tally, is_opening, opened, past_limit, with_one, within_limits};
+ghost use Rattle.anvil_grammar.specs.Limits.{most_open, open_after};
+ghost use Rattle.anvil_grammar.specs.Begun.{most};
 ghost use Rattle.anvil_parser.specs.Seen.{begin_of, begun_of};
 ghost use Rattle.anvil_parser.specs.SeenFile.{tally_of};
 
-use crate::error::{Counted, ParseErr};
 use crate::step::{Begin, Begun};
+use anvil_grammar::{Counted, ParseErr};
 use anvil_lexer::{Mark, Token, TokenKind};
 
 /// The most brackets that may be open at once.
@@ -147,7 +148,7 @@ impl Counts {
     fn with(self, begin: Begin) -> Result<Counts, ParseErr>
         ensures { MatchResult result
             (λ counts. admitted (tally_of self) (begin_of begin ∷ []) ≡ within_limits (tally_of counts))
-            (λ fault. admitted (tally_of self) (begin_of begin ∷ []) ≡ past_limit fault) }
+            (λ refusal. admitted (tally_of self) (begin_of begin ∷ []) ≡ past_limit refusal) }
     {
         if self.of(begin.kind) >= most(begin.kind) {
             return Err(ParseErr::TooMany {
@@ -162,14 +163,14 @@ impl Counts {
     pub fn with_begun(self, begun: Begun) -> Result<Counts, ParseErr>
         ensures { MatchResult result
             (λ counts. admitted (tally_of self) (begun_of begun) ≡ within_limits (tally_of counts))
-            (λ fault. admitted (tally_of self) (begun_of begun) ≡ past_limit fault) }
+            (λ refusal. admitted (tally_of self) (begun_of begun) ≡ past_limit refusal) }
     {
         match begun {
             Begun::Nothing => Ok(self),
             Begun::One(begin) => self.with(begin),
             Begun::Two(begin, other) => match self.with(begin) {
                 Ok(counts) => counts.with(other),
-                Err(fault) => Err(fault),
+                Err(refusal) => Err(refusal),
             },
         }
     }
@@ -178,7 +179,7 @@ impl Counts {
     pub fn with_token(self, token: &Token) -> Result<Counts, ParseErr>
         ensures { MatchResult result
             (λ counts. opened (tally_of self) token.now ≡ within_limits (tally_of counts))
-            (λ fault. opened (tally_of self) token.now ≡ past_limit fault) }
+            (λ refusal. opened (tally_of self) token.now ≡ past_limit refusal) }
     {
         if is_opening(&token.kind) && self.open_brackets >= MOST_OPEN {
             return Err(ParseErr::TooDeep { at: token.at });

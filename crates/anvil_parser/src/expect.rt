@@ -1,10 +1,10 @@
-//! Tokens that are wanted at a position, and what follows where they stand there.
+//! Tokens that are wanted at a state, and what follows where they stand there.
 ghost use Rattle.std.specs.Prelude.{◌≡◌, ◌≢◌, ℕ, List, MatchBool, MatchResult};
-ghost use Rattle.anvil_parser.specs.Words.{side_of};
+ghost use Rattle.anvil_grammar.specs.Words.{side_of};
 
-use crate::error::ParseErr;
 use crate::step::{Begun, Step};
 use crate::width::Label;
+use anvil_grammar::ParseErr;
 use anvil_lexer::{Keyword, Mark, Token, TokenKind};
 use anvil_tree::Side;
 
@@ -12,7 +12,7 @@ use anvil_tree::Side;
 pub fn expect<P: Drop, R: Drop>(token: &Token, mark: Mark, next: P) -> Result<Step<P, R>, ParseErr>
     ensures { MatchResult result
         (λ step. (token.now.kind ≡ TokenKind.Mark mark) × (step ≡ Step.Onward Begun.Nothing next))
-        (λ fault. (token.now.kind ≢ TokenKind.Mark mark) × (fault ≡ ParseErr.Unexpected token.now.at)) }
+        (λ refusal. (token.now.kind ≢ TokenKind.Mark mark) × (refusal ≡ ParseErr.Unexpected token.now.at)) }
 {
     match &token.kind {
         TokenKind::Mark(found) if *found == mark => Ok(Step::Onward(Begun::Nothing, next)),
@@ -24,7 +24,8 @@ pub fn expect<P: Drop, R: Drop>(token: &Token, mark: Mark, next: P) -> Result<St
 pub fn word(token: &Token) -> Result<Label, ParseErr>
     ensures { MatchResult result
         (λ label. (token.now.kind ≡ TokenKind.Word label.name) × (label.at ≡ token.now.at))
-        (λ fault. ((name : List ℕ) → token.now.kind ≢ TokenKind.Word name) × (fault ≡ ParseErr.Unexpected token.now.at)) }
+        (λ refusal. ((name : List ℕ) → token.now.kind ≢ TokenKind.Word name)
+        × (refusal ≡ ParseErr.Unexpected token.now.at)) }
 {
     match &token.kind {
         TokenKind::Word(name) => Ok(Label {

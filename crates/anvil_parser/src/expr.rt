@@ -1,24 +1,24 @@
-//! Reads expressions token by token. An operator waits in a frame for its second operand; when that is whole, it is taken by the
-//! frames that bind it more strongly than the next token does.
+//! Reads expressions token by token. An operator waits in a frame for its second operand; when that is whole, it is
+//! taken by the frames that bind it more strongly than the next token does.
 ghost use Rattle.std.specs.Prelude.{◌≡◌, ◌⊎◌, ◌∷◌, IfErr, IfOk, MatchResult, Some};
-ghost use Rattle.anvil_parser.specs.Position as position;
+ghost use Rattle.anvil_grammar.specs.State as states;
 ghost use Rattle.anvil_tree.specs.Tree as tree;
 ghost use Rattle.anvil_tree.specs.View.{expr_of, term_of};
-ghost use Rattle.anvil_parser.specs.Words.{function_of};
-ghost use Rattle.anvil_parser.specs.Step.{function_step, inner_step, operand_ends, operand_step, operator_at, operator_step, parenthesis_step, settled, thread_step_at, word_step};
+ghost use Rattle.anvil_grammar.specs.Words.{function_of};
+ghost use Rattle.anvil_grammar.specs.Step.{function_step, inner_step, operand_ends, operand_step, operator_at, operator_step, parenthesis_step, settled, thread_step_at, word_step};
 ghost use Rattle.anvil_parser.specs.Seen.{IsStep};
-ghost use Rattle.anvil_parser.specs.SeenThread.{acted, expr_position_of, operand_frame_of, stack_of, taken_by, thread_of};
+ghost use Rattle.anvil_parser.specs.SeenThread.{acted, expr_state_of, operand_frame_of, stack_of, taken_by, thread_of};
 
 use crate::act::expression_step;
-use crate::error::{Counted, ParseErr};
 use crate::expect::{expect, is_mark, word};
 use crate::nodes::{binary, choice, inverse};
 use crate::operator::{function_at, operator_at, strength};
 use crate::stack::{Frame, OperandFrame, Stack};
 use crate::step::{Begin, Begun};
 use crate::thread::{
-    ExprPosition, Thread, ThreadPosition, ThreadStep, begun_by, goes, node, waits, within,
+    ExprState, Thread, ThreadState, ThreadStep, begun_by, goes, node, waits, within,
 };
+use anvil_grammar::{Counted, ParseErr};
 use anvil_lexer::{Mark, Name, Token, TokenKind};
 use anvil_tree::{BinOp, Expr, ExprKind};
 use std::alloc::Global;
@@ -27,7 +27,7 @@ use std::alloc::Global;
 fn taken(alloc: Global, frame: OperandFrame, operand: Expr) -> Result<Expr, ParseErr>
     ensures { MatchResult result
         (λ expr. expr_of expr ≡ taken_by (operand_frame_of frame) (expr_of operand))
-        (λ fault. fault ≡ ParseErr.NoMemory) }
+        (λ refusal. refusal ≡ ParseErr.NoMemory) }
 {
     match frame {
         OperandFrame::Inverting { at } => inverse(alloc, at, operand),
@@ -52,15 +52,16 @@ fn settled(
     strong: u8,
 ) -> Result<(Stack, Expr), ParseErr>
     ensures { MatchResult result
-        (λ found. settled strong (stack_of stack) (expr_of operand) ≡ record { stack = stack_of found.0; operand = expr_of found.1 })
-        (λ fault. fault ≡ ParseErr.NoMemory) }
+        (λ found. settled strong (stack_of stack) (expr_of operand)
+        ≡ record { stack = stack_of found.0; operand = expr_of found.1 })
+        (λ refusal. refusal ≡ ParseErr.NoMemory) }
 {
     let mut stack = stack;
     let mut operand = operand;
     while let Some(frame) = stack.pop_taking(strong) {
         match taken(alloc, frame, operand) {
             Ok(expr) => operand = expr,
-            Err(fault) => return Err(fault),
+            Err(refusal) => return Err(refusal),
         }
     }
     Ok((stack, operand))
@@ -68,7 +69,8 @@ fn settled(
 
 /// An operand is wanted. It may be the first token of an act, which then begins ahead of the operand's node.
 pub fn operand_step(act: Option<Begin>, stack: Stack, token: &Token) -> ThreadStep
-    ensures { IsStep thread_of term_of token.now (acted act (operand_step (stack_of stack) token.now token.now.kind)) result }
+    ensures { IsStep thread_of term_of token.now
+        (acted act (operand_step (stack_of stack) token.now token.now.kind)) result }
 {
     let at = token.at;
     match &token.kind {
@@ -78,14 +80,14 @@ pub fn operand_step(act: Option<Begin>, stack: Stack, token: &Token) -> ThreadSt
                 node(act, token),
                 stack,
                 frame,
-                ThreadPosition::Expr(ExprPosition::OperandWanted),
+                ThreadState::Expr(ExprState::OperandWanted),
             )
         }
         TokenKind::Mark(Mark::Star) => {
             goes(
                 node(act, token),
                 stack,
-                ThreadPosition::Expr(ExprPosition::ShownRegister { at }),
+                ThreadState::Expr(ExprState::ShownRegister { at }),
             )
         }
         TokenKind::Literal { width, value } => {
@@ -99,7 +101,7 @@ pub fn operand_step(act: Option<Begin>, stack: Stack, token: &Token) -> ThreadSt
             goes(
                 node(act, token),
                 stack,
-                ThreadPosition::Expr(ExprPosition::AfterOperand(literal)),
+                ThreadState::Expr(ExprState::AfterOperand(literal)),
             )
         }
         TokenKind::Word(name) => {
@@ -107,14 +109,14 @@ pub fn operand_step(act: Option<Begin>, stack: Stack, token: &Token) -> ThreadSt
             goes(
                 node(act, token),
                 stack,
-                ThreadPosition::Expr(ExprPosition::AfterWord { at, name }),
+                ThreadState::Expr(ExprState::AfterWord { at, name }),
             )
         }
         TokenKind::Mark(Mark::OpenParen) => {
             goes(
                 begun_by(act),
                 stack,
-                ThreadPosition::Expr(ExprPosition::ParenthesisOpened { at }),
+                ThreadState::Expr(ExprState::ParenthesisOpened { at }),
             )
         }
         kind => function_step(act, stack, token, function_at(kind)),
@@ -128,15 +130,16 @@ fn function_step(
     token: &Token,
     function: Option<BinOp>,
 ) -> ThreadStep
-    ensures { IsStep thread_of term_of token.now (acted act (function_step (stack_of stack) token.now function)) result }
+    ensures { IsStep thread_of term_of token.now
+        (acted act (function_step (stack_of stack) token.now function)) result }
 {
     match function {
         Some(operator) => {
-            let position = ExprPosition::CallOpening {
+            let state = ExprState::CallOpening {
                 operator,
                 at: token.at,
             };
-            goes(node(act, token), stack, ThreadPosition::Expr(position))
+            goes(node(act, token), stack, ThreadState::Expr(state))
         }
         None => Err(ParseErr::Unexpected { at: token.at }),
     }
@@ -145,7 +148,8 @@ fn function_step(
 /// `(` was read: with `)` it is the unit, and else it begins a group.
 #[tactic(auto, using(crate::proofs::Openings::acted_none, crate::proofs::Openings::group_begins))]
 pub fn parenthesis_step(stack: Stack, at: u32, token: &Token) -> ThreadStep
-    ensures { IsStep thread_of term_of token.now (parenthesis_step (stack_of stack) at token.now token.now.kind) result }
+    ensures { IsStep thread_of term_of token.now
+        (parenthesis_step (stack_of stack) at token.now token.now.kind) result }
 {
     if is_mark(token, Mark::CloseParen) {
         let begun = Begun::One(Begin {
@@ -159,23 +163,24 @@ pub fn parenthesis_step(stack: Stack, at: u32, token: &Token) -> ThreadStep
         return goes(
             begun,
             stack,
-            ThreadPosition::Expr(ExprPosition::AfterOperand(unit)),
+            ThreadState::Expr(ExprState::AfterOperand(unit)),
         );
     }
     match group(stack) {
         Ok(stack) => operand_step(None, stack, token),
-        Err(fault) => Err(fault),
+        Err(refusal) => Err(refusal),
     }
 }
 
 // The frames with a group on top.
 fn group(stack: Stack) -> Result<Stack, ParseErr>
-    ensures { MatchResult result (λ grouped. stack_of grouped ≡ position.grouping ∷ stack_of stack) (λ fault. fault ≡ ParseErr.NoMemory) }
+    ensures { MatchResult result (λ grouped. stack_of grouped ≡ states.grouping ∷ stack_of stack)
+        (λ refusal. refusal ≡ ParseErr.NoMemory) }
 {
     let mut stack = stack;
     match stack.push(Frame::Operand(OperandFrame::Grouping)) {
         Ok(()) => Ok(stack),
-        Err(fault) => Err(fault),
+        Err(refusal) => Err(refusal),
     }
 }
 
@@ -185,13 +190,14 @@ pub fn operand_ends(alloc: Global, stack: Stack, operand: Expr, token: &Token) -
 {
     match settled(alloc, stack, operand, strength(&token.kind)) {
         Ok((stack, operand)) => operator_step(alloc, stack, operand, token),
-        Err(fault) => Err(fault),
+        Err(refusal) => Err(refusal),
     }
 }
 
 // The operand that the frames have left: an operator or `?` goes on with it, or the expression is whole.
 fn operator_step(alloc: Global, stack: Stack, operand: Expr, token: &Token) -> ThreadStep
-    ensures { IsStep thread_of term_of token.now (operator_step (stack_of stack) (expr_of operand) token.now (operator_at token.now.kind)) result }
+    ensures { IsStep thread_of term_of token.now
+        (operator_step (stack_of stack) (expr_of operand) token.now (operator_at token.now.kind)) result }
 {
     match operator_at(&token.kind) {
         Some(operator) => operates(stack, operand, operator, token),
@@ -204,7 +210,7 @@ fn operator_step(alloc: Global, stack: Stack, operand: Expr, token: &Token) -> T
                 node(None, token),
                 stack,
                 Frame::Operand(frame),
-                ThreadPosition::Expr(ExprPosition::OperandWanted),
+                ThreadState::Expr(ExprState::OperandWanted),
             )
         }
         None => expression_step(alloc, stack, operand, token),
@@ -213,7 +219,8 @@ fn operator_step(alloc: Global, stack: Stack, operand: Expr, token: &Token) -> T
 
 // An operator waits for its second operand, but for a comparison of what was compared.
 fn operates(stack: Stack, left: Expr, operator: BinOp, token: &Token) -> ThreadStep
-    ensures { IsStep thread_of term_of token.now (operator_step (stack_of stack) (expr_of left) token.now (Some operator)) result }
+    ensures { IsStep thread_of term_of token.now
+        (operator_step (stack_of stack) (expr_of left) token.now (Some operator)) result }
 {
     if stack.compares(operator) {
         return Err(ParseErr::Unexpected { at: token.at });
@@ -227,7 +234,7 @@ fn operates(stack: Stack, left: Expr, operator: BinOp, token: &Token) -> ThreadS
         node(None, token),
         stack,
         Frame::Operand(frame),
-        ThreadPosition::Expr(ExprPosition::OperandWanted),
+        ThreadState::Expr(ExprState::OperandWanted),
     )
 }
 
@@ -240,7 +247,7 @@ fn word_step(alloc: Global, stack: Stack, at: u32, name: Name, token: &Token) ->
             goes(
                 Begun::Nothing,
                 stack,
-                ThreadPosition::Expr(ExprPosition::SliceHigh { at, name }),
+                ThreadState::Expr(ExprState::SliceHigh { at, name }),
             )
         }
         _ => operand_ends(
@@ -257,7 +264,8 @@ fn word_step(alloc: Global, stack: Stack, at: u32, name: Name, token: &Token) ->
 
 // `*` was read, and the token names its register.
 fn shown_step(stack: Stack, at: u32, token: &Token) -> ThreadStep
-    ensures { IsStep thread_of term_of token.now (inner_step (stack_of stack) (position.shown_register at) token.now token.now.kind) result }
+    ensures { IsStep thread_of term_of token.now
+        (inner_step (stack_of stack) (states.shown_register at) token.now token.now.kind) result }
 {
     match word(token) {
         Ok(label) => {
@@ -268,40 +276,38 @@ fn shown_step(stack: Stack, at: u32, token: &Token) -> ThreadStep
             goes(
                 Begun::Nothing,
                 stack,
-                ThreadPosition::Expr(ExprPosition::AfterOperand(shown)),
+                ThreadState::Expr(ExprState::AfterOperand(shown)),
             )
         }
-        Err(fault) => Err(fault),
+        Err(refusal) => Err(refusal),
     }
 }
 
 // The name of a function was read.
 fn call_step(stack: Stack, operator: BinOp, at: u32, token: &Token) -> ThreadStep
-    ensures { IsStep thread_of term_of token.now (inner_step (stack_of stack) (position.call_opening operator at) token.now token.now.kind) result }
+    ensures { IsStep thread_of term_of token.now
+        (inner_step (stack_of stack) (states.call_opening operator at) token.now token.now.kind) result }
 {
     let frame = Frame::Operand(OperandFrame::Calling { operator, at });
-    match within(
-        stack,
-        frame,
-        ThreadPosition::Expr(ExprPosition::OperandWanted),
-    ) {
+    match within(stack, frame, ThreadState::Expr(ExprState::OperandWanted)) {
         Ok(thread) => expect(token, Mark::OpenParen, thread),
-        Err(fault) => Err(fault),
+        Err(refusal) => Err(refusal),
     }
 }
 
 // The upper number of a slice.
 fn high_step(stack: Stack, at: u32, name: Name, token: &Token) -> ThreadStep
-    ensures { IsStep thread_of term_of token.now (inner_step (stack_of stack) (position.slice_high at name) token.now token.now.kind) result }
+    ensures { IsStep thread_of term_of token.now
+        (inner_step (stack_of stack) (states.slice_high at name) token.now token.now.kind) result }
 {
     match &token.kind {
         TokenKind::Number(high) => {
-            let position = ExprPosition::SliceColon {
+            let state = ExprState::SliceColon {
                 at,
                 name,
                 high: *high,
             };
-            goes(Begun::Nothing, stack, ThreadPosition::Expr(position))
+            goes(Begun::Nothing, stack, ThreadState::Expr(state))
         }
         _ => Err(ParseErr::Unexpected { at: token.at }),
     }
@@ -309,17 +315,18 @@ fn high_step(stack: Stack, at: u32, name: Name, token: &Token) -> ThreadStep
 
 // The lower number of a slice.
 fn low_step(stack: Stack, at: u32, name: Name, high: u32, token: &Token) -> ThreadStep
-    ensures { IsStep thread_of term_of token.now (inner_step (stack_of stack) (position.slice_low at name high) token.now token.now.kind) result }
+    ensures { IsStep thread_of term_of token.now
+        (inner_step (stack_of stack) (states.slice_low at name high) token.now token.now.kind) result }
 {
     match &token.kind {
         TokenKind::Number(low) => {
-            let position = ExprPosition::SliceClosing {
+            let state = ExprState::SliceClosing {
                 at,
                 name,
                 high,
                 low: *low,
             };
-            goes(Begun::Nothing, stack, ThreadPosition::Expr(position))
+            goes(Begun::Nothing, stack, ThreadState::Expr(state))
         }
         _ => Err(ParseErr::Unexpected { at: token.at }),
     }
@@ -327,22 +334,23 @@ fn low_step(stack: Stack, at: u32, name: Name, high: u32, token: &Token) -> Thre
 
 /// Reads on in an expression.
 #[tactic(auto, using(crate::proofs::Openings::acted_none))]
-pub fn expr_step(alloc: Global, stack: Stack, position: ExprPosition, token: &Token) -> ThreadStep
-    ensures { IsStep thread_of term_of token.now (thread_step_at (stack_of stack) (expr_position_of position) token.now) result }
+pub fn expr_step(alloc: Global, stack: Stack, state: ExprState, token: &Token) -> ThreadStep
+    ensures { IsStep thread_of term_of token.now
+        (thread_step_at (stack_of stack) (expr_state_of state) token.now) result }
 {
-    match position {
-        ExprPosition::OperandWanted => operand_step(None, stack, token),
-        ExprPosition::ShownRegister { at } => shown_step(stack, at, token),
-        ExprPosition::ParenthesisOpened { at } => parenthesis_step(stack, at, token),
-        ExprPosition::CallOpening { operator, at } => call_step(stack, operator, at, token),
-        ExprPosition::AfterWord { at, name } => word_step(alloc, stack, at, name, token),
-        ExprPosition::SliceHigh { at, name } => high_step(stack, at, name, token),
-        ExprPosition::SliceColon { at, name, high } => {
-            let position = ThreadPosition::Expr(ExprPosition::SliceLow { at, name, high });
-            expect(token, Mark::Colon, Thread { stack, position })
+    match state {
+        ExprState::OperandWanted => operand_step(None, stack, token),
+        ExprState::ShownRegister { at } => shown_step(stack, at, token),
+        ExprState::ParenthesisOpened { at } => parenthesis_step(stack, at, token),
+        ExprState::CallOpening { operator, at } => call_step(stack, operator, at, token),
+        ExprState::AfterWord { at, name } => word_step(alloc, stack, at, name, token),
+        ExprState::SliceHigh { at, name } => high_step(stack, at, name, token),
+        ExprState::SliceColon { at, name, high } => {
+            let state = ThreadState::Expr(ExprState::SliceLow { at, name, high });
+            expect(token, Mark::Colon, Thread { stack, state })
         }
-        ExprPosition::SliceLow { at, name, high } => low_step(stack, at, name, high, token),
-        ExprPosition::SliceClosing {
+        ExprState::SliceLow { at, name, high } => low_step(stack, at, name, high, token),
+        ExprState::SliceClosing {
             at,
             name,
             high,
@@ -352,9 +360,9 @@ pub fn expr_step(alloc: Global, stack: Stack, position: ExprPosition, token: &To
                 at,
                 kind: ExprKind::Slice { name, high, low },
             };
-            let position = ThreadPosition::Expr(ExprPosition::AfterOperand(slice));
-            expect(token, Mark::CloseBracket, Thread { stack, position })
+            let state = ThreadState::Expr(ExprState::AfterOperand(slice));
+            expect(token, Mark::CloseBracket, Thread { stack, state })
         }
-        ExprPosition::AfterOperand(operand) => operand_ends(alloc, stack, operand, token),
+        ExprState::AfterOperand(operand) => operand_ends(alloc, stack, operand, token),
     }
 }

@@ -3,21 +3,22 @@ ghost use Rattle.std.specs.Prelude.{◌≡◌, MatchResult};
 ghost use Rattle.anvil_tree.specs.Tree as tree;
 ghost use Rattle.anvil_tree.specs.View.{expr_of};
 
-use crate::error::ParseErr;
 use crate::room::{boxed, boxed_pair};
+use anvil_grammar::ParseErr;
 use anvil_tree::{BinOp, Expr, ExprKind};
 use std::alloc::Global;
 
 /// `~e`
 pub fn inverse(alloc: Global, at: u32, operand: Expr) -> Result<Expr, ParseErr>
-    ensures { MatchResult result (λ expr. expr_of expr ≡ tree.inverse at (expr_of operand)) (λ fault. fault ≡ ParseErr.NoMemory) }
+    ensures { MatchResult result (λ expr. expr_of expr ≡ tree.inverse at (expr_of operand))
+        (λ refusal. refusal ≡ ParseErr.NoMemory) }
 {
     match boxed(alloc, operand) {
         Ok(operand) => Ok(Expr {
             at,
             kind: ExprKind::Not(operand),
         }),
-        Err(fault) => Err(fault),
+        Err(refusal) => Err(refusal),
     }
 }
 
@@ -31,14 +32,14 @@ pub fn binary(
 ) -> Result<Expr, ParseErr>
     ensures { MatchResult result
         (λ expr. expr_of expr ≡ tree.binary at operator (expr_of first) (expr_of second))
-        (λ fault. fault ≡ ParseErr.NoMemory) }
+        (λ refusal. refusal ≡ ParseErr.NoMemory) }
 {
     match boxed_pair(alloc, first, second) {
         Ok((first, second)) => Ok(Expr {
             at,
             kind: ExprKind::Bin(operator, first, second),
         }),
-        Err(fault) => Err(fault),
+        Err(refusal) => Err(refusal),
     }
 }
 
@@ -52,11 +53,11 @@ pub fn choice(
 ) -> Result<Expr, ParseErr>
     ensures { MatchResult result
         (λ expr. expr_of expr ≡ tree.choice at (expr_of condition) (expr_of first) (expr_of second))
-        (λ fault. fault ≡ ParseErr.NoMemory) }
+        (λ refusal. refusal ≡ ParseErr.NoMemory) }
 {
     match boxed_pair(alloc, first, second) {
         Ok((first, second)) => chosen(alloc, at, condition, first, second),
-        Err(fault) => Err(fault),
+        Err(refusal) => Err(refusal),
     }
 }
 
@@ -70,13 +71,13 @@ fn chosen(
 ) -> Result<Expr, ParseErr>
     ensures { MatchResult result
         (λ expr. expr_of expr ≡ tree.choice at (expr_of condition) (expr_of first.value) (expr_of second.value))
-        (λ fault. fault ≡ ParseErr.NoMemory) }
+        (λ refusal. refusal ≡ ParseErr.NoMemory) }
 {
     match boxed(alloc, condition) {
         Ok(condition) => Ok(Expr {
             at,
             kind: ExprKind::Choose(condition, first, second),
         }),
-        Err(fault) => Err(fault),
+        Err(refusal) => Err(refusal),
     }
 }

@@ -1,7 +1,7 @@
 //! Operators: the tokens that are one, and how strongly each binds.
 ghost use Rattle.std.specs.Prelude.{◌≡◌};
-ghost use Rattle.anvil_parser.specs.Words.{function_of};
-ghost use Rattle.anvil_parser.specs.Step.{is_comparison, operator_at, strength, strength_of, takes_first};
+ghost use Rattle.anvil_grammar.specs.Words.{function_of};
+ghost use Rattle.anvil_grammar.specs.Step.{is_comparison, operator_at, strength, strength_of, takes_first};
 
 use anvil_lexer::{Keyword, Mark, TokenKind};
 use anvil_tree::BinOp;

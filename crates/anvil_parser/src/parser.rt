@@ -3,17 +3,18 @@ ghost use Rattle.std.specs.Prelude.{◌≡◌, ◌≢◌, ◌⊎◌, List, IfErr
 ghost use Rattle.anvil_lexer.specs.TokenText.{AreClosed, ArePlacesRising};
 ghost use Rattle.anvil_tree.specs.Tree as tree;
 ghost use Rattle.anvil_tree.specs.View.{file_of};
-ghost use Rattle.anvil_parser.specs.Order.{NeverFall, places_of_file};
-ghost use Rattle.anvil_parser.specs.Refusal.{IsAccepted, IsFirstRefusal, IsSameRefusal};
-ghost use Rattle.anvil_parser.specs.Position as place;
-ghost use Rattle.anvil_parser.specs.Limited.{Tally, admitted_with, goes_on, opened, past_limit, refused, take_token, verdict, within_limits};
+ghost use Rattle.anvil_tree.specs.Few.{IsFew};
+ghost use Rattle.anvil_tree.specs.Order.{ActsNeverFall, NeverFall, places_of_file};
+ghost use Rattle.anvil_grammar.specs.Refusal.{IsAccepted, IsFirstRefusal, IsSameRefusal};
+ghost use Rattle.anvil_grammar.specs.State as states;
+ghost use Rattle.anvil_grammar.specs.Limited.{Tally, admitted_with, goes_on, opened, past_limit, refused, take_token, verdict, within_limits};
 ghost use Rattle.anvil_parser.specs.Seen.{begun_of};
-ghost use Rattle.anvil_parser.specs.SeenFile.{items_of, position_of, tally_of};
+ghost use Rattle.anvil_parser.specs.SeenFile.{items_of, state_of, tally_of};
 
 use crate::counts::Counts;
-use crate::error::ParseErr;
-use crate::position::{Position, step};
+use crate::state::{State, step};
 use crate::step::{Begun, Step};
+use anvil_grammar::ParseErr;
 use anvil_lexer::Token;
 use anvil_tree::{File, Item};
 use std::alloc::Global;
@@ -22,94 +23,100 @@ use std::alloc::Global;
 fn counted(counts: Counts, token: &Token, begun: Begun) -> Result<Counts, ParseErr>
     ensures { MatchResult result
         (λ after. admitted_with (opened (tally_of counts) token.now) (begun_of begun) ≡ within_limits (tally_of after))
-        (λ fault. admitted_with (opened (tally_of counts) token.now) (begun_of begun) ≡ past_limit fault) }
+        (λ refusal. admitted_with (opened (tally_of counts) token.now) (begun_of begun) ≡ past_limit refusal) }
 {
     match counts.with_token(token) {
         Ok(counts) => counts.with_begun(begun),
-        Err(fault) => Err(fault),
+        Err(refusal) => Err(refusal),
     }
 }
 
 // One token more.
 fn take_token(
     alloc: Global,
-    position: Position,
+    state: State,
     counts: Counts,
     token: &Token,
-) -> Result<(Position, Counts), ParseErr>
+) -> Result<(State, Counts), ParseErr>
     ensures { MatchResult result
-        (λ found. take_token (position_of position) (tally_of counts) token.now ≡ goes_on (position_of found.0) (tally_of found.1))
-        (λ fault. (fault ≡ ParseErr.NoMemory) ⊎ (take_token (position_of position) (tally_of counts) token.now ≡ refused fault)) }
+        (λ found. take_token (state_of state) (tally_of counts) token.now
+        ≡ goes_on (state_of found.0) (tally_of found.1))
+        (λ refusal. (refusal ≡ ParseErr.NoMemory)
+        ⊎ (take_token (state_of state) (tally_of counts) token.now ≡ refused refusal)) }
 {
-    match step(alloc, position, token) {
+    match step(alloc, state, token) {
         Ok(Step::Onward(begun, next)) => match counted(counts, token, begun) {
             Ok(counts) => Ok((next, counts)),
-            Err(fault) => Err(fault),
+            Err(refusal) => Err(refusal),
         },
         Ok(Step::Finished(_)) => Err(ParseErr::Unexpected { at: token.at }),
-        Err(fault) => Err(fault),
+        Err(refusal) => Err(refusal),
     }
 }
 
 // All tokens, one after the other, as far as they go.
-fn read(alloc: Global, tokens: &[Token]) -> Result<Position, ParseErr>
+fn read(alloc: Global, tokens: &[Token]) -> Result<State, ParseErr>
     ensures { MatchResult result
-        (λ position. (tally : Tally) × (verdict tokens.now ≡ goes_on (position_of position) tally))
-        (λ fault. (fault ≡ ParseErr.NoMemory) ⊎ (verdict tokens.now ≡ refused fault)) }
+        (λ state. (tally : Tally) × (verdict tokens.now ≡ goes_on (state_of state) tally))
+        (λ refusal. (refusal ≡ ParseErr.NoMemory) ⊎ (verdict tokens.now ≡ refused refusal)) }
 {
-    let mut position = Position::Between(Vec::new(alloc));
+    let mut state = State::Between(Vec::new(alloc));
     let mut counts = Counts::none();
     for token in tokens {
-        match take_token(alloc, position, counts, token) {
+        match take_token(alloc, state, counts, token) {
             Ok((next, after)) => {
-                position = next;
+                state = next;
                 counts = after;
             }
-            Err(fault) => return Err(fault),
+            Err(refusal) => return Err(refusal),
         }
     }
-    Ok(position)
+    Ok(state)
 }
 
 // The items of a file that is read to its end.
-fn items_at_end(position: Position) -> Option<Vec<Item>>
+fn items_at_end(state: State) -> Option<Vec<Item>>
     ensures { MatchOption result
-        ((file : tree.File) → position_of position ≢ place.ended file)
-        (λ items. position_of position ≡ place.ended (items_of items)) }
+        ((file : tree.File) → state_of state ≢ states.ended file)
+        (λ items. state_of state ≡ states.ended (items_of items)) }
 {
-    match position {
-        Position::Ended(items) => Some(items),
-        Position::Between(_) | Position::InClass(_, _) | Position::InProcess(_, _) => None,
+    match state {
+        State::Ended(items) => Some(items),
+        State::Between(_) | State::InClass(_, _) | State::InProcess(_, _) => None,
     }
 }
 
-/// The tree of the tokens, which is the one file that they are by the grammar, within all limits; its places are in order.
+/// The tree of the tokens, which is the one file that they are by the grammar, within all limits; its places are in
+/// order.
 ///
-/// The limits are 64 open brackets, 256 nodes of an expression, 512 acts of a thread, 16 threads of a process, and 64 registers and
-/// endpoints of a process, messages of a class, processes and classes. No input makes the call stack grow: what is begun waits in a
-/// vector.
+/// The limits are 64 open brackets, 256 nodes of an expression, 512 acts of a thread, 16 threads of a process, and 64
+/// registers and endpoints of a process, messages of a class, processes and classes. No input makes the call stack
+/// grow: what is begun waits in a vector.
 ///
 /// # Errors
 ///
-/// The refusal with the least place, and at one place in this order: `Unexpected` exactly where the tokens before the one at `at` begin
-/// some file, and with it none; `TooDeep` exactly where the bracket at `at` opens while 64 are open; `TooMany` exactly where the token
-/// at `at` begins the thing that is one past a limit. `NoMemory` may come in place of any answer.
+/// The refusal with the least place, and at one place in this order: `Unexpected` exactly where the tokens before the
+/// one at `at` begin some file, and with it none; `TooDeep` exactly where the bracket at `at` opens while 64 are open;
+/// `TooMany` exactly where the token at `at` begins the thing that is one past a limit. `NoMemory` may come in place of
+/// any answer.
 pub fn parse(alloc: Global, tokens: &[Token]) -> Result<File, ParseErr>
     requires closed { AreClosed tokens.now }
     requires rising { ArePlacesRising tokens.now }
     ensures tree { IfOk result (λ file. IsAccepted tokens.now (file_of file)) }
     ensures every_file { (file : tree.File) → IsAccepted tokens.now file
-        → MatchResult result (λ found. file_of found ≡ file) (λ fault. fault ≡ ParseErr.NoMemory) }
+        → MatchResult result (λ found. file_of found ≡ file) (λ refusal. refusal ≡ ParseErr.NoMemory) }
+    ensures few { IfOk result (λ file. IsFew (file_of file)) }
     ensures in_order { IfOk result (λ file. NeverFall (places_of_file (file_of file))) }
-    ensures refused { IfErr result (λ fault. fault ≢ ParseErr.NoMemory → IsFirstRefusal tokens.now fault) }
-    ensures every_refusal { (fault : ParseErr) → IsFirstRefusal tokens.now fault
-        → MatchResult result (λ _. ⊥) (λ found. IsSameRefusal found fault ⊎ (found ≡ ParseErr.NoMemory)) }
+    ensures acts_in_order { IfOk result (λ file. ActsNeverFall (file_of file)) }
+    ensures refused { IfErr result (λ refusal. refusal ≢ ParseErr.NoMemory → IsFirstRefusal tokens.now refusal) }
+    ensures every_refusal { (refusal : ParseErr) → IsFirstRefusal tokens.now refusal
+        → MatchResult result (λ _. ⊥) (λ found. IsSameRefusal found refusal ⊎ (found ≡ ParseErr.NoMemory)) }
 {
     match read(alloc, tokens) {
-        Ok(position) => match items_at_end(position) {
+        Ok(state) => match items_at_end(state) {
             Some(items) => Ok(File { items }),
             None => unreachable!(),
         },
-        Err(fault) => Err(fault),
+        Err(refusal) => Err(refusal),
     }
 }

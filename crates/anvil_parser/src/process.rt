@@ -1,20 +1,20 @@
 //! Reads a process token by token, from behind `proc` to its `}`.
 ghost use Rattle.std.specs.Prelude.{◌≡◌, ◌⊎◌, MatchResult};
 ghost use Rattle.anvil_tree.specs.View.{process_of, term_of};
-ghost use Rattle.anvil_parser.specs.Step.{begins, begins_endpoint, empty_draft, process_of_draft, process_step, with_endpoint, with_register, with_thread};
+ghost use Rattle.anvil_grammar.specs.Step.{begins, begins_endpoint, empty_draft, process_of_draft, process_step, with_endpoint, with_register, with_thread};
 ghost use Rattle.anvil_parser.specs.Seen.{IsStep, label_of, step_of};
-ghost use Rattle.anvil_parser.specs.SeenProcess.{process_draft_of, process_position_of};
+ghost use Rattle.anvil_parser.specs.SeenProcess.{process_draft_of, process_state_of};
 
 use crate::begin::thread_step;
-use crate::endpoint::{EndpointPosition, endpoint_step};
-use crate::error::{Counted, ParseErr};
+use crate::endpoint::{EndpointState, endpoint_step};
 use crate::expect::{expect, word};
-use crate::register::{RegisterPosition, register_step};
+use crate::register::{RegisterState, register_step};
 use crate::room::push;
 use crate::stack::Stack;
 use crate::step::{Begin, Begun, Step};
-use crate::thread::{TermPosition, Thread, ThreadPosition};
+use crate::thread::{TermState, Thread, ThreadState};
 use crate::width::Label;
+use anvil_grammar::{Counted, ParseErr};
 use anvil_lexer::{Keyword, Mark, Token, TokenKind};
 use anvil_tree::{Endpoint, Proc, Register, Term};
 use std::alloc::Global;
@@ -30,23 +30,23 @@ pub struct ProcessDraft {
 
 /// What is wanted next in a process, behind `proc`.
 #[derive(Drop)]
-pub enum ProcessPosition {
+pub enum ProcessState {
     Name,
     Opening(Label),
     FirstEndpoint(ProcessDraft),
     NextEndpoint(ProcessDraft),
-    InEndpoint(ProcessDraft, EndpointPosition),
+    InEndpoint(ProcessDraft, EndpointState),
     AfterEndpoint(ProcessDraft),
     BodyOpening(ProcessDraft),
     Registers(ProcessDraft),
-    InRegister(ProcessDraft, RegisterPosition),
+    InRegister(ProcessDraft, RegisterState),
     Threads(ProcessDraft),
     ThreadOpening(ProcessDraft),
     InThread(ProcessDraft, Thread),
 }
 
 /// What a token comes to in a process.
-pub type ProcessStep = Result<Step<ProcessPosition, Proc>, ParseErr>;
+pub type ProcessStep = Result<Step<ProcessState, Proc>, ParseErr>;
 
 impl ProcessDraft {
     // With no part yet.
@@ -85,7 +85,7 @@ impl ProcessDraft {
     fn with_endpoint(self, endpoint: Endpoint) -> Result<ProcessDraft, ParseErr>
         ensures { MatchResult result
             (λ draft. process_draft_of draft ≡ with_endpoint (process_draft_of self) endpoint)
-            (λ fault. fault ≡ ParseErr.NoMemory) }
+            (λ refusal. refusal ≡ ParseErr.NoMemory) }
     {
         let ProcessDraft {
             label,
@@ -100,7 +100,7 @@ impl ProcessDraft {
                 registers,
                 threads,
             }),
-            Err(fault) => Err(fault),
+            Err(refusal) => Err(refusal),
         }
     }
 
@@ -108,7 +108,7 @@ impl ProcessDraft {
     fn with_register(self, register: Register) -> Result<ProcessDraft, ParseErr>
         ensures { MatchResult result
             (λ draft. process_draft_of draft ≡ with_register (process_draft_of self) register)
-            (λ fault. fault ≡ ParseErr.NoMemory) }
+            (λ refusal. refusal ≡ ParseErr.NoMemory) }
     {
         let ProcessDraft {
             label,
@@ -123,7 +123,7 @@ impl ProcessDraft {
                 registers,
                 threads,
             }),
-            Err(fault) => Err(fault),
+            Err(refusal) => Err(refusal),
         }
     }
 
@@ -131,7 +131,7 @@ impl ProcessDraft {
     fn with_thread(self, thread: Term) -> Result<ProcessDraft, ParseErr>
         ensures { MatchResult result
             (λ draft. process_draft_of draft ≡ with_thread (process_draft_of self) (term_of thread))
-            (λ fault. fault ≡ ParseErr.NoMemory) }
+            (λ refusal. refusal ≡ ParseErr.NoMemory) }
     {
         let ProcessDraft {
             label,
@@ -146,15 +146,15 @@ impl ProcessDraft {
                 registers,
                 threads,
             }),
-            Err(fault) => Err(fault),
+            Err(refusal) => Err(refusal),
         }
     }
 }
 
 // Goes on where something of a kind begins at the token.
-fn begins(kind: Counted, token: &Token, next: ProcessPosition) -> ProcessStep
+fn begins(kind: Counted, token: &Token, next: ProcessState) -> ProcessStep
     ensures { MatchResult result
-        (λ step. step_of process_position_of process_of step ≡ begins kind token.now (process_position_of next))
+        (λ step. step_of process_state_of process_of step ≡ begins kind token.now (process_state_of next))
         (λ _. ⊥) }
 {
     Ok(Step::Onward(Begun::One(Begin { kind, at: token.at }), next))
@@ -164,24 +164,26 @@ fn begins(kind: Counted, token: &Token, next: ProcessPosition) -> ProcessStep
 fn begins_endpoint(draft: ProcessDraft, label: Label, token: &Token) -> ProcessStep
     requires { label.at ≡ token.now.at }
     ensures { MatchResult result
-        (λ step. step_of process_position_of process_of step ≡ begins_endpoint (process_draft_of draft) token.now label.name)
+        (λ step. step_of process_state_of process_of step
+        ≡ begins_endpoint (process_draft_of draft) token.now label.name)
         (λ _. ⊥) }
 {
     begins(
         Counted::Endpoint,
         token,
-        ProcessPosition::InEndpoint(draft, EndpointPosition::Colon(label)),
+        ProcessState::InEndpoint(draft, EndpointState::Colon(label)),
     )
 }
 
 // Behind `(`: an endpoint, or none.
 fn first_endpoint_step(draft: ProcessDraft, token: &Token) -> ProcessStep
-    ensures { IsStep process_position_of process_of token.now (process_step (process_position_of (ProcessPosition.FirstEndpoint draft)) token.now) result }
+    ensures { IsStep process_state_of process_of token.now
+        (process_step (process_state_of (ProcessState.FirstEndpoint draft)) token.now) result }
 {
     match &token.kind {
         TokenKind::Mark(Mark::CloseParen) => Ok(Step::Onward(
             Begun::Nothing,
-            ProcessPosition::BodyOpening(draft),
+            ProcessState::BodyOpening(draft),
         )),
         TokenKind::Word(name) => begins_endpoint(
             draft,
@@ -197,43 +199,46 @@ fn first_endpoint_step(draft: ProcessDraft, token: &Token) -> ProcessStep
 
 // Behind a comma: an endpoint.
 fn next_endpoint_step(draft: ProcessDraft, token: &Token) -> ProcessStep
-    ensures { IsStep process_position_of process_of token.now (process_step (process_position_of (ProcessPosition.NextEndpoint draft)) token.now) result }
+    ensures { IsStep process_state_of process_of token.now
+        (process_step (process_state_of (ProcessState.NextEndpoint draft)) token.now) result }
 {
     match word(token) {
         Ok(label) => begins_endpoint(draft, label, token),
-        Err(fault) => Err(fault),
+        Err(refusal) => Err(refusal),
     }
 }
 
 // Reads on in an endpoint.
-fn in_endpoint_step(draft: ProcessDraft, position: EndpointPosition, token: &Token) -> ProcessStep
-    ensures { IsStep process_position_of process_of token.now (process_step (process_position_of (ProcessPosition.InEndpoint draft position)) token.now) result }
+fn in_endpoint_step(draft: ProcessDraft, state: EndpointState, token: &Token) -> ProcessStep
+    ensures { IsStep process_state_of process_of token.now
+        (process_step (process_state_of (ProcessState.InEndpoint draft state)) token.now) result }
 {
-    match endpoint_step(position, token) {
-        Ok(Step::Onward(begun, position)) => Ok(Step::Onward(
+    match endpoint_step(state, token) {
+        Ok(Step::Onward(begun, state)) => Ok(Step::Onward(
             begun,
-            ProcessPosition::InEndpoint(draft, position),
+            ProcessState::InEndpoint(draft, state),
         )),
         Ok(Step::Finished(endpoint)) => match draft.with_endpoint(endpoint) {
-            Ok(draft) => Ok(Step::Onward(Begun::Nothing, ProcessPosition::AfterEndpoint(draft))),
-            Err(fault) => Err(fault),
+            Ok(draft) => Ok(Step::Onward(Begun::Nothing, ProcessState::AfterEndpoint(draft))),
+            Err(refusal) => Err(refusal),
         },
-        Err(fault) => Err(fault),
+        Err(refusal) => Err(refusal),
     }
 }
 
 // Behind an endpoint.
 fn after_endpoint_step(draft: ProcessDraft, token: &Token) -> ProcessStep
-    ensures { IsStep process_position_of process_of token.now (process_step (process_position_of (ProcessPosition.AfterEndpoint draft)) token.now) result }
+    ensures { IsStep process_state_of process_of token.now
+        (process_step (process_state_of (ProcessState.AfterEndpoint draft)) token.now) result }
 {
     match &token.kind {
         TokenKind::Mark(Mark::Comma) => Ok(Step::Onward(
             Begun::Nothing,
-            ProcessPosition::NextEndpoint(draft),
+            ProcessState::NextEndpoint(draft),
         )),
         TokenKind::Mark(Mark::CloseParen) => Ok(Step::Onward(
             Begun::Nothing,
-            ProcessPosition::BodyOpening(draft),
+            ProcessState::BodyOpening(draft),
         )),
         _ => Err(ParseErr::Unexpected { at: token.at }),
     }
@@ -241,20 +246,21 @@ fn after_endpoint_step(draft: ProcessDraft, token: &Token) -> ProcessStep
 
 // Where a register or a thread may begin.
 fn registers_step(draft: ProcessDraft, token: &Token) -> ProcessStep
-    ensures { IsStep process_position_of process_of token.now (process_step (process_position_of (ProcessPosition.Registers draft)) token.now) result }
+    ensures { IsStep process_state_of process_of token.now
+        (process_step (process_state_of (ProcessState.Registers draft)) token.now) result }
 {
     match &token.kind {
         TokenKind::Key(Keyword::Reg) => {
             begins(
                 Counted::Register,
                 token,
-                ProcessPosition::InRegister(draft, RegisterPosition::Name),
+                ProcessState::InRegister(draft, RegisterState::Name),
             )
         }
         TokenKind::Key(Keyword::Loop) => begins(
             Counted::Thread,
             token,
-            ProcessPosition::ThreadOpening(draft),
+            ProcessState::ThreadOpening(draft),
         ),
         TokenKind::Mark(Mark::CloseBrace) => Ok(Step::Finished(draft.into_process())),
         _ => Err(ParseErr::Unexpected { at: token.at }),
@@ -262,31 +268,33 @@ fn registers_step(draft: ProcessDraft, token: &Token) -> ProcessStep
 }
 
 // Reads on in a register.
-fn in_register_step(draft: ProcessDraft, position: RegisterPosition, token: &Token) -> ProcessStep
-    ensures { IsStep process_position_of process_of token.now (process_step (process_position_of (ProcessPosition.InRegister draft position)) token.now) result }
+fn in_register_step(draft: ProcessDraft, state: RegisterState, token: &Token) -> ProcessStep
+    ensures { IsStep process_state_of process_of token.now
+        (process_step (process_state_of (ProcessState.InRegister draft state)) token.now) result }
 {
-    match register_step(position, token) {
-        Ok(Step::Onward(begun, position)) => Ok(Step::Onward(
+    match register_step(state, token) {
+        Ok(Step::Onward(begun, state)) => Ok(Step::Onward(
             begun,
-            ProcessPosition::InRegister(draft, position),
+            ProcessState::InRegister(draft, state),
         )),
         Ok(Step::Finished(register)) => match draft.with_register(register) {
-            Ok(draft) => Ok(Step::Onward(Begun::Nothing, ProcessPosition::Registers(draft))),
-            Err(fault) => Err(fault),
+            Ok(draft) => Ok(Step::Onward(Begun::Nothing, ProcessState::Registers(draft))),
+            Err(refusal) => Err(refusal),
         },
-        Err(fault) => Err(fault),
+        Err(refusal) => Err(refusal),
     }
 }
 
 // Where a thread may begin, and no register.
 fn threads_step(draft: ProcessDraft, token: &Token) -> ProcessStep
-    ensures { IsStep process_position_of process_of token.now (process_step (process_position_of (ProcessPosition.Threads draft)) token.now) result }
+    ensures { IsStep process_state_of process_of token.now
+        (process_step (process_state_of (ProcessState.Threads draft)) token.now) result }
 {
     match &token.kind {
         TokenKind::Key(Keyword::Loop) => begins(
             Counted::Thread,
             token,
-            ProcessPosition::ThreadOpening(draft),
+            ProcessState::ThreadOpening(draft),
         ),
         TokenKind::Mark(Mark::CloseBrace) => Ok(Step::Finished(draft.into_process())),
         _ => Err(ParseErr::Unexpected { at: token.at }),
@@ -295,66 +303,64 @@ fn threads_step(draft: ProcessDraft, token: &Token) -> ProcessStep
 
 // `{` of a thread.
 fn thread_opening_step(alloc: Global, draft: ProcessDraft, token: &Token) -> ProcessStep
-    ensures { IsStep process_position_of process_of token.now (process_step (process_position_of (ProcessPosition.ThreadOpening draft)) token.now) result }
+    ensures { IsStep process_state_of process_of token.now
+        (process_step (process_state_of (ProcessState.ThreadOpening draft)) token.now) result }
 {
     let thread = Thread {
         stack: Stack::new(alloc),
-        position: ThreadPosition::Term(TermPosition::Wanted),
+        state: ThreadState::Term(TermState::Wanted),
     };
     expect(
         token,
         Mark::OpenBrace,
-        ProcessPosition::InThread(draft, thread),
+        ProcessState::InThread(draft, thread),
     )
 }
 
 // Reads on in a thread.
 fn in_thread_step(alloc: Global, draft: ProcessDraft, thread: Thread, token: &Token) -> ProcessStep
-    ensures { IsStep process_position_of process_of token.now (process_step (process_position_of (ProcessPosition.InThread draft thread)) token.now) result }
+    ensures { IsStep process_state_of process_of token.now
+        (process_step (process_state_of (ProcessState.InThread draft thread)) token.now) result }
 {
     match thread_step(alloc, thread, token) {
         Ok(Step::Onward(begun, thread)) => Ok(Step::Onward(
             begun,
-            ProcessPosition::InThread(draft, thread),
+            ProcessState::InThread(draft, thread),
         )),
         Ok(Step::Finished(term)) => match draft.with_thread(term) {
-            Ok(draft) => Ok(Step::Onward(Begun::Nothing, ProcessPosition::Threads(draft))),
-            Err(fault) => Err(fault),
+            Ok(draft) => Ok(Step::Onward(Begun::Nothing, ProcessState::Threads(draft))),
+            Err(refusal) => Err(refusal),
         },
-        Err(fault) => Err(fault),
+        Err(refusal) => Err(refusal),
     }
 }
 
 /// Reads on in a process.
-pub fn process_step(alloc: Global, position: ProcessPosition, token: &Token) -> ProcessStep
-    ensures { IsStep process_position_of process_of token.now (process_step (process_position_of position) token.now) result }
+pub fn process_step(alloc: Global, state: ProcessState, token: &Token) -> ProcessStep
+    ensures { IsStep process_state_of process_of token.now (process_step (process_state_of state) token.now) result }
 {
-    match position {
-        ProcessPosition::Name => match word(token) {
-            Ok(label) => Ok(Step::Onward(Begun::Nothing, ProcessPosition::Opening(label))),
-            Err(fault) => Err(fault),
+    match state {
+        ProcessState::Name => match word(token) {
+            Ok(label) => Ok(Step::Onward(Begun::Nothing, ProcessState::Opening(label))),
+            Err(refusal) => Err(refusal),
         },
-        ProcessPosition::Opening(label) => {
+        ProcessState::Opening(label) => {
             let draft = ProcessDraft::new(alloc, label);
-            expect(
-                token,
-                Mark::OpenParen,
-                ProcessPosition::FirstEndpoint(draft),
-            )
+            expect(token, Mark::OpenParen, ProcessState::FirstEndpoint(draft))
         }
-        ProcessPosition::FirstEndpoint(draft) => first_endpoint_step(draft, token),
-        ProcessPosition::NextEndpoint(draft) => next_endpoint_step(draft, token),
-        ProcessPosition::InEndpoint(draft, position) => in_endpoint_step(draft, position, token),
-        ProcessPosition::AfterEndpoint(draft) => after_endpoint_step(draft, token),
-        ProcessPosition::BodyOpening(draft) => expect(
+        ProcessState::FirstEndpoint(draft) => first_endpoint_step(draft, token),
+        ProcessState::NextEndpoint(draft) => next_endpoint_step(draft, token),
+        ProcessState::InEndpoint(draft, state) => in_endpoint_step(draft, state, token),
+        ProcessState::AfterEndpoint(draft) => after_endpoint_step(draft, token),
+        ProcessState::BodyOpening(draft) => expect(
             token,
             Mark::OpenBrace,
-            ProcessPosition::Registers(draft),
+            ProcessState::Registers(draft),
         ),
-        ProcessPosition::Registers(draft) => registers_step(draft, token),
-        ProcessPosition::InRegister(draft, position) => in_register_step(draft, position, token),
-        ProcessPosition::Threads(draft) => threads_step(draft, token),
-        ProcessPosition::ThreadOpening(draft) => thread_opening_step(alloc, draft, token),
-        ProcessPosition::InThread(draft, thread) => in_thread_step(alloc, draft, thread, token),
+        ProcessState::Registers(draft) => registers_step(draft, token),
+        ProcessState::InRegister(draft, state) => in_register_step(draft, state, token),
+        ProcessState::Threads(draft) => threads_step(draft, token),
+        ProcessState::ThreadOpening(draft) => thread_opening_step(alloc, draft, token),
+        ProcessState::InThread(draft, thread) => in_thread_step(alloc, draft, thread, token),
     }
 }

@@ -1,21 +1,21 @@
 //! Reads a register of a process token by token, from behind `reg` to its `;`.
 ghost use Rattle.std.specs.Prelude.{◌≡◌, MatchResult};
-ghost use Rattle.anvil_parser.specs.Step.{register_step};
-ghost use Rattle.anvil_parser.specs.Seen.{IsStep, register_position_of, same};
+ghost use Rattle.anvil_grammar.specs.Step.{register_step};
+ghost use Rattle.anvil_parser.specs.Seen.{IsStep, register_state_of, same};
 
-use crate::error::ParseErr;
 use crate::expect::{expect, word};
 use crate::step::{Begun, Step};
-use crate::width::{Label, Width, WidthPosition, width_step};
+use crate::width::{Label, Width, WidthState, width_step};
+use anvil_grammar::ParseErr;
 use anvil_lexer::{Mark, Token, TokenKind};
 use anvil_tree::{LiteralText, Register};
 
 /// What is wanted next in a register, behind `reg`.
 #[derive(Drop)]
-pub enum RegisterPosition {
+pub enum RegisterState {
     Name,
     Colon(Label),
-    Width(Label, WidthPosition),
+    Width(Label, WidthState),
     Reset(Label, Width),
     Literal(Label, Width),
     End(Register),
@@ -23,37 +23,37 @@ pub enum RegisterPosition {
 
 /// Reads on in a register.
 pub fn register_step(
-    position: RegisterPosition,
+    state: RegisterState,
     token: &Token,
-) -> Result<Step<RegisterPosition, Register>, ParseErr>
-    ensures { IsStep register_position_of same token.now (register_step (register_position_of position) token.now) result }
+) -> Result<Step<RegisterState, Register>, ParseErr>
+    ensures { IsStep register_state_of same token.now (register_step (register_state_of state) token.now) result }
 {
-    match position {
-        RegisterPosition::Name => match word(token) {
-            Ok(label) => Ok(Step::Onward(Begun::Nothing, RegisterPosition::Colon(label))),
-            Err(fault) => Err(fault),
+    match state {
+        RegisterState::Name => match word(token) {
+            Ok(label) => Ok(Step::Onward(Begun::Nothing, RegisterState::Colon(label))),
+            Err(refusal) => Err(refusal),
         },
-        RegisterPosition::Colon(label) => {
+        RegisterState::Colon(label) => {
             expect(
                 token,
                 Mark::Colon,
-                RegisterPosition::Width(label, WidthPosition::Logic),
+                RegisterState::Width(label, WidthState::Logic),
             )
         }
-        RegisterPosition::Width(label, place) => match width_step(place, token) {
-            Ok(Step::Onward(_, place)) => Ok(Step::Onward(
+        RegisterState::Width(label, state) => match width_step(state, token) {
+            Ok(Step::Onward(_, state)) => Ok(Step::Onward(
                 Begun::Nothing,
-                RegisterPosition::Width(label, place),
+                RegisterState::Width(label, state),
             )),
             Ok(Step::Finished(width)) => Ok(Step::Onward(
                 Begun::Nothing,
-                RegisterPosition::Reset(label, width),
+                RegisterState::Reset(label, width),
             )),
-            Err(fault) => Err(fault),
+            Err(refusal) => Err(refusal),
         },
-        RegisterPosition::Reset(label, width) => reset_step(label, width, token),
-        RegisterPosition::Literal(label, width) => literal_step(label, width, token),
-        RegisterPosition::End(register) => match &token.kind {
+        RegisterState::Reset(label, width) => reset_step(label, width, token),
+        RegisterState::Literal(label, width) => literal_step(label, width, token),
+        RegisterState::End(register) => match &token.kind {
             TokenKind::Mark(Mark::Semicolon) => Ok(Step::Finished(register)),
             _ => Err(ParseErr::Unexpected { at: token.at }),
         },
@@ -65,13 +65,14 @@ fn reset_step(
     label: Label,
     width: Width,
     token: &Token,
-) -> Result<Step<RegisterPosition, Register>, ParseErr>
-    ensures { IsStep register_position_of same token.now (register_step (register_position_of (RegisterPosition.Reset label width)) token.now) result }
+) -> Result<Step<RegisterState, Register>, ParseErr>
+    ensures { IsStep register_state_of same token.now
+        (register_step (register_state_of (RegisterState.Reset label width)) token.now) result }
 {
     match &token.kind {
         TokenKind::Mark(Mark::Equals) => Ok(Step::Onward(
             Begun::Nothing,
-            RegisterPosition::Literal(label, width),
+            RegisterState::Literal(label, width),
         )),
         TokenKind::Mark(Mark::Semicolon) => Ok(Step::Finished(register_of(label, width, None))),
         _ => Err(ParseErr::Unexpected { at: token.at }),
@@ -83,8 +84,9 @@ fn literal_step(
     label: Label,
     width: Width,
     token: &Token,
-) -> Result<Step<RegisterPosition, Register>, ParseErr>
-    ensures { IsStep register_position_of same token.now (register_step (register_position_of (RegisterPosition.Literal label width)) token.now) result }
+) -> Result<Step<RegisterState, Register>, ParseErr>
+    ensures { IsStep register_state_of same token.now
+        (register_step (register_state_of (RegisterState.Literal label width)) token.now) result }
 {
     match &token.kind {
         TokenKind::Literal { width: bits, value } => {
@@ -94,7 +96,7 @@ fn literal_step(
                 at: token.at,
             };
             let register = register_of(label, width, Some(reset));
-            Ok(Step::Onward(Begun::Nothing, RegisterPosition::End(register)))
+            Ok(Step::Onward(Begun::Nothing, RegisterState::End(register)))
         }
         _ => Err(ParseErr::Unexpected { at: token.at }),
     }
@@ -102,7 +104,8 @@ fn literal_step(
 
 // The register whose parts have been read.
 fn register_of(label: Label, width: Width, reset: Option<LiteralText>) -> Register
-    ensures { result ≡ record { name = label.name; at = label.at; width = width.width; width_at = width.width_at; reset = reset } }
+    ensures { result ≡ record
+        { name = label.name; at = label.at; width = width.width; width_at = width.width_at; reset = reset } }
 {
     let Label { name, at } = label;
     let Width { width, width_at } = width;

@@ -1,13 +1,13 @@
 //! Growing values, which may want memory.
 ghost use Rattle.std.specs.Prelude.{◌≡◌, ◌++◌, ◌∷◌, [], IfErr, MatchResult, OnOk};
 
-use crate::error::ParseErr;
+use anvil_grammar::ParseErr;
 use std::alloc::Global;
 
 /// Puts an item after the others.
 pub fn push<T: Drop>(items: &mut Vec<T>, item: T) -> Result<(), ParseErr>
     ensures pushed { OnOk result (items.new.items ≡ items.old.items ++ item ∷ []) }
-    ensures full { IfErr result (λ fault. fault ≡ ParseErr.NoMemory) }
+    ensures full { IfErr result (λ refusal. refusal ≡ ParseErr.NoMemory) }
 {
     match items.push(item) {
         Ok(()) => Ok(()),
@@ -17,7 +17,7 @@ pub fn push<T: Drop>(items: &mut Vec<T>, item: T) -> Result<(), ParseErr>
 
 /// A value in a box of its own.
 pub fn boxed<T: Drop>(alloc: Global, value: T) -> Result<Box<T>, ParseErr>
-    ensures { MatchResult result (λ held. held.value ≡ value) (λ fault. fault ≡ ParseErr.NoMemory) }
+    ensures { MatchResult result (λ held. held.value ≡ value) (λ refusal. refusal ≡ ParseErr.NoMemory) }
 {
     match Box::new(alloc, value) {
         Ok(held) => Ok(held),
@@ -33,13 +33,13 @@ pub fn boxed_pair<S: Drop, T: Drop>(
 ) -> Result<(Box<S>, Box<T>), ParseErr>
     ensures { MatchResult result
         (λ held. (held.0.value ≡ first) × (held.1.value ≡ second))
-        (λ fault. fault ≡ ParseErr.NoMemory) }
+        (λ refusal. refusal ≡ ParseErr.NoMemory) }
 {
     match boxed(alloc, first) {
         Ok(first) => match boxed(alloc, second) {
             Ok(second) => Ok((first, second)),
-            Err(fault) => Err(fault),
+            Err(refusal) => Err(refusal),
         },
-        Err(fault) => Err(fault),
+        Err(refusal) => Err(refusal),
     }
 }

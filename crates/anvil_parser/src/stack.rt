@@ -1,18 +1,19 @@
 //! The parts of a thread that wait while one of their own parts is read, the innermost on top.
 ghost use Rattle.std.specs.Prelude.{◌≡◌, ◌≢◌, ◌∷◌, [], ℕ, List, true, false, IfErr, None, OnOk, MatchOption};
-ghost use Rattle.anvil_parser.specs.Position as position;
-ghost use Rattle.anvil_parser.specs.Step.{compares};
+ghost use Rattle.anvil_grammar.specs.State as states;
+ghost use Rattle.anvil_grammar.specs.Step.{compares};
 ghost use Rattle.anvil_parser.specs.SeenThread.{bound_of, frame_of, is_link, link_frame_of, operand_frame_of, stack_of, takes_operand, unbound};
 
-use crate::error::ParseErr;
 use crate::operator::{is_comparison, takes_first};
 use crate::room::push;
 use crate::width::Label;
+use anvil_grammar::ParseErr;
 use anvil_lexer::Name;
 use anvil_tree::{Act, BinOp, Expr, Term};
 use std::alloc::Global;
 
-/// A part of an expression that waits for an operand or an expression. A place is that of the token that the whole is named by.
+/// A part of an expression that waits for an operand or an expression. A place is that of the token that the whole is
+/// named by.
 #[derive(Drop)]
 pub enum OperandFrame {
     /// `~` for its operand.
@@ -137,7 +138,7 @@ impl Stack {
     /// Puts a frame on top.
     pub fn push(&mut self, frame: Frame) -> Result<(), ParseErr>
         ensures pushed { OnOk result (stack_of self.new ≡ frame_of frame ∷ stack_of self.old) }
-        ensures full { IfErr result (λ fault. fault ≡ ParseErr.NoMemory) }
+        ensures full { IfErr result (λ refusal. refusal ≡ ParseErr.NoMemory) }
     {
         push(&mut self.frames, frame)
     }
@@ -155,7 +156,7 @@ impl Stack {
     pub fn top(&self) -> Option<&Frame>
         ensures { MatchOption result
             (stack_of self.now ≡ [])
-            (λ frame. (below : List position.Frame) × (stack_of self.now ≡ frame_of frame.now ∷ below)) }
+            (λ frame. (below : List states.Frame) × (stack_of self.now ≡ frame_of frame.now ∷ below)) }
     {
         self.frames.last()
     }
@@ -178,7 +179,8 @@ impl Stack {
     pub fn pop_taking(&mut self, strong: u8) -> Option<OperandFrame>
         ensures { MatchOption result
             ((takes_operand strong (stack_of self.old) ≡ false) × (stack_of self.new ≡ stack_of self.old))
-            (λ frame. (takes_operand strong (stack_of self.old) ≡ true) × (stack_of self.old ≡ operand_frame_of frame ∷ stack_of self.new)) }
+            (λ frame. (takes_operand strong (stack_of self.old) ≡ true)
+            × (stack_of self.old ≡ operand_frame_of frame ∷ stack_of self.new)) }
     {
         if !self.takes_operand(strong) {
             return None;
@@ -259,7 +261,7 @@ fn none_of<T: Drop, R: Drop>(_value: T) -> Option<R>
 // The part of an expression that a frame is.
 fn operand_of(frame: Frame) -> Option<OperandFrame>
     ensures { MatchOption result
-        ((strong : ℕ) (stack : List position.Frame) → takes_operand strong (frame_of frame ∷ stack) ≡ false)
+        ((strong : ℕ) (stack : List states.Frame) → takes_operand strong (frame_of frame ∷ stack) ≡ false)
         (λ part. frame_of frame ≡ operand_frame_of part) }
 {
     match frame {
@@ -274,7 +276,7 @@ fn operand_of(frame: Frame) -> Option<OperandFrame>
 // The act that a frame is, where it waits for the term behind it.
 fn link_of(frame: Frame) -> Option<Link>
     ensures { MatchOption result
-        ((stack : List position.Frame) → is_link (frame_of frame ∷ stack) ≡ false)
+        ((stack : List states.Frame) → is_link (frame_of frame ∷ stack) ≡ false)
         (λ link. frame_of frame ≡ link_frame_of link) }
 {
     match frame {

@@ -1,5 +1,5 @@
-//! What a token comes to at a position, and the things that begin with it.
-use crate::error::Counted;
+//! What a token comes to at a state, and the things that begin with it.
+use anvil_grammar::Counted;
 
 /// A thing that begins, with the place of the token by which it does. A node has the place of its own token.
 #[derive(Clone, Copy)]

@@ -1,21 +1,21 @@
 //! Where the reading of a thread stands, behind its `{`.
 ghost use Rattle.std.specs.Prelude.{◌≡◌, ◌∷◌, [], MatchResult};
-ghost use Rattle.anvil_parser.specs.declared.error.Counted.TheVariants as counted;
-ghost use Rattle.anvil_parser.specs.Step.{at_position, onward};
+ghost use Rattle.anvil_grammar.specs.declared.error.Counted.TheVariants as counted;
+ghost use Rattle.anvil_grammar.specs.Step.{at_state, onward};
 ghost use Rattle.anvil_parser.specs.Seen.{begun_of, step_of};
-ghost use Rattle.anvil_parser.specs.SeenThread.{acted_begun, frame_of, stack_of, thread_of, thread_position_of};
+ghost use Rattle.anvil_parser.specs.SeenThread.{acted_begun, frame_of, stack_of, thread_of, thread_state_of};
 ghost use Rattle.anvil_tree.specs.View.{term_of};
 
-use crate::error::{Counted, ParseErr};
 use crate::stack::{Frame, Stack};
 use crate::step::{Begin, Begun, Step};
 use crate::width::Label;
+use anvil_grammar::{Counted, ParseErr};
 use anvil_lexer::{Name, Token};
 use anvil_tree::{Act, BinOp, Expr, Term};
 
 /// What is wanted next in a term.
 #[derive(Drop)]
-pub enum TermPosition {
+pub enum TermState {
     Wanted,
     LetName,
     LetEquals(Name),
@@ -35,7 +35,7 @@ pub enum TermPosition {
 
 /// What is wanted next in an act, behind its keyword.
 #[derive(Drop)]
-pub enum ActPosition {
+pub enum ActState {
     CycleCount {
         at: u32,
     },
@@ -77,7 +77,7 @@ pub enum ActPosition {
 
 /// What is wanted next in an expression.
 #[derive(Drop)]
-pub enum ExprPosition {
+pub enum ExprState {
     OperandWanted,
     ShownRegister {
         at: u32,
@@ -118,52 +118,54 @@ pub enum ExprPosition {
 
 /// What is wanted next in a thread.
 #[derive(Drop)]
-pub enum ThreadPosition {
-    Term(TermPosition),
-    Act(ActPosition),
-    Expr(ExprPosition),
+pub enum ThreadState {
+    Term(TermState),
+    Act(ActState),
+    Expr(ExprState),
 }
 
 /// A thread that is being read.
 #[derive(Drop)]
 pub struct Thread {
     pub stack: Stack,
-    pub position: ThreadPosition,
+    pub state: ThreadState,
 }
 
 /// What a token comes to in a thread.
 pub type ThreadStep = Result<Step<Thread, Term>, ParseErr>;
 
-/// Goes on at a position.
-pub fn goes(begun: Begun, stack: Stack, position: ThreadPosition) -> ThreadStep
+/// Goes on at a state.
+pub fn goes(begun: Begun, stack: Stack, state: ThreadState) -> ThreadStep
     ensures { MatchResult result
-        (λ step. step_of thread_of term_of step ≡ onward (begun_of begun) (at_position (stack_of stack) (thread_position_of position)))
+        (λ step. step_of thread_of term_of step
+        ≡ onward (begun_of begun) (at_state (stack_of stack) (thread_state_of state)))
         (λ _. ⊥) }
 {
-    Ok(Step::Onward(begun, Thread { stack, position }))
+    Ok(Step::Onward(begun, Thread { stack, state }))
 }
 
-/// Goes on at a position inside a frame.
-pub fn waits(begun: Begun, stack: Stack, frame: Frame, position: ThreadPosition) -> ThreadStep
+/// Goes on at a state inside a frame.
+pub fn waits(begun: Begun, stack: Stack, frame: Frame, state: ThreadState) -> ThreadStep
     ensures { MatchResult result
-        (λ step. step_of thread_of term_of step ≡ onward (begun_of begun) (at_position (frame_of frame ∷ stack_of stack) (thread_position_of position)))
-        (λ fault. fault ≡ ParseErr.NoMemory) }
+        (λ step. step_of thread_of term_of step
+        ≡ onward (begun_of begun) (at_state (frame_of frame ∷ stack_of stack) (thread_state_of state)))
+        (λ refusal. refusal ≡ ParseErr.NoMemory) }
 {
-    match within(stack, frame, position) {
+    match within(stack, frame, state) {
         Ok(thread) => Ok(Step::Onward(begun, thread)),
-        Err(fault) => Err(fault),
+        Err(refusal) => Err(refusal),
     }
 }
 
-/// A position inside a frame.
-pub fn within(mut stack: Stack, frame: Frame, position: ThreadPosition) -> Result<Thread, ParseErr>
+/// A state inside a frame.
+pub fn within(mut stack: Stack, frame: Frame, state: ThreadState) -> Result<Thread, ParseErr>
     ensures { MatchResult result
-        (λ thread. thread_of thread ≡ at_position (frame_of frame ∷ stack_of stack) (thread_position_of position))
-        (λ fault. fault ≡ ParseErr.NoMemory) }
+        (λ thread. thread_of thread ≡ at_state (frame_of frame ∷ stack_of stack) (thread_state_of state))
+        (λ refusal. refusal ≡ ParseErr.NoMemory) }
 {
     match stack.push(frame) {
-        Ok(()) => Ok(Thread { stack, position }),
-        Err(fault) => Err(fault),
+        Ok(()) => Ok(Thread { stack, state }),
+        Err(refusal) => Err(refusal),
     }
 }
 

@@ -1,10 +1,10 @@
-//! Labels, widths and the small positions.
+//! Labels, widths and the small states.
 ghost use Rattle.std.specs.Prelude.{◌≡◌};
-ghost use Rattle.anvil_parser.specs.Step.{width_step};
-ghost use Rattle.anvil_parser.specs.Seen.{IsStep, width_position_of, width_of};
+ghost use Rattle.anvil_grammar.specs.Step.{width_step};
+ghost use Rattle.anvil_parser.specs.Seen.{IsStep, width_state_of, width_of};
 
-use crate::error::ParseErr;
 use crate::step::{Begun, Step};
+use anvil_grammar::ParseErr;
 use anvil_lexer::{Keyword, Mark, Name, Token, TokenKind};
 
 /// A name with its place.
@@ -23,7 +23,7 @@ pub struct Width {
 
 /// What is wanted next in `logic [ width ]`.
 #[derive(Clone, Copy)]
-pub enum WidthPosition {
+pub enum WidthState {
     Logic,
     Opening,
     Number,
@@ -31,29 +31,26 @@ pub enum WidthPosition {
 }
 
 /// Reads on in `logic [ width ]`.
-pub fn width_step(
-    position: WidthPosition,
-    token: &Token,
-) -> Result<Step<WidthPosition, Width>, ParseErr>
-    ensures { IsStep width_position_of width_of token.now (width_step (width_position_of position) token.now) result }
+pub fn width_step(state: WidthState, token: &Token) -> Result<Step<WidthState, Width>, ParseErr>
+    ensures { IsStep width_state_of width_of token.now (width_step (width_state_of state) token.now) result }
 {
-    match (position, &token.kind) {
-        (WidthPosition::Logic, TokenKind::Key(Keyword::Logic)) => Ok(Step::Onward(
+    match (state, &token.kind) {
+        (WidthState::Logic, TokenKind::Key(Keyword::Logic)) => Ok(Step::Onward(
             Begun::Nothing,
-            WidthPosition::Opening,
+            WidthState::Opening,
         )),
-        (WidthPosition::Opening, TokenKind::Mark(Mark::OpenBracket)) => Ok(Step::Onward(
+        (WidthState::Opening, TokenKind::Mark(Mark::OpenBracket)) => Ok(Step::Onward(
             Begun::Nothing,
-            WidthPosition::Number,
+            WidthState::Number,
         )),
-        (WidthPosition::Number, TokenKind::Number(width)) => {
+        (WidthState::Number, TokenKind::Number(width)) => {
             let width = Width {
                 width: *width,
                 width_at: token.at,
             };
-            Ok(Step::Onward(Begun::Nothing, WidthPosition::Closing(width)))
+            Ok(Step::Onward(Begun::Nothing, WidthState::Closing(width)))
         }
-        (WidthPosition::Closing(width), TokenKind::Mark(Mark::CloseBracket)) => Ok(Step::Finished(
+        (WidthState::Closing(width), TokenKind::Mark(Mark::CloseBracket)) => Ok(Step::Finished(
             width,
         )),
         _ => Err(ParseErr::Unexpected { at: token.at }),

@@ -18,14 +18,16 @@ zip_more R [] (y' ∷ ys) x y all last = absurd all
 zip_more R (x' ∷ xs) [] x y all last = absurd all
 zip_more R (x' ∷ xs) (y' ∷ ys) x y (first, others) last = (first, zip_more R xs ys x y others last)
 
-pub module_more : (plains : List Plain) (index : ℕ) (plain : Plain) (modules : List Module) (tree : Module) → index < length plains → plain ≡ get_or plains index plain
-    → AreModules (map counter_of (take index plains)) modules → IsModule (counter_of plain) tree → AreModules (map counter_of (take (index + 1) plains)) (modules ++ tree ∷ [])
-module_more plains index plain modules tree inside is before last =
-    let longer : take (index + 1) plains ≡ take index plains ++ plain ∷ [] = take_more plains index plain inside ∙ ap (λ one. take index plains ++ one ∷ []) (sym is) in
-    rw (ap (map counter_of) longer ∙ map_push counter_of (take index plains) plain) (zip_more IsModule _ _ _ _ before last)
+pub module_more : (counters : List Plain) (index : ℕ) (counter : Plain) (modules : List Module) (tree : Module) → index < length counters → counter ≡ get_or counters index counter
+    → AreModules (map counter_of (take index counters)) modules → IsModule (counter_of counter) tree
+    → AreModules (map counter_of (take (index + 1) counters)) (modules ++ tree ∷ [])
+module_more counters index counter modules tree inside is before last =
+    let longer : take (index + 1) counters ≡ take index counters ++ counter ∷ [] = take_more counters index counter inside ∙ ap (λ one. take index counters ++ one ∷ []) (sym is) in
+    rw (ap (map counter_of) longer ∙ map_push counter_of (take index counters) counter) (zip_more IsModule _ _ _ _ before last)
 
 -- each process of a plain file is within the limits
-pub counters_hold : (plains : List Plain) (items : List Item) → AreCounting (map counter_of plains) items → (k : ℕ) (d : Plain) → k < length plains → IsCounter (counter_of (get_or plains k d))
-counters_hold [] items counting k d inside = absurd (omega arith)
-counters_hold (plain ∷ plains) items (more first others) zero d inside = first.limits
-counters_hold (plain ∷ plains) items (more first others) (suc k) d inside = counters_hold plains _ others k d (omega arith)
+pub counters_hold : (counters : List Plain) (items : List Item) → AreCounting (map counter_of counters) items
+    → (index : ℕ) (default : Plain) → index < length counters → IsCounter (counter_of (get_or counters index default))
+counters_hold [] items counting index default inside = absurd (omega arith)
+counters_hold (counter ∷ counters) items (more first others) zero default inside = first.limits
+counters_hold (counter ∷ counters) items (more first others) (suc index) default inside = counters_hold counters _ others index default (omega arith)

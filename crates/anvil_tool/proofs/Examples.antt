@@ -1,11 +1,11 @@
--- Lines of refusals, computed.
+-- Lines of refusals and of the usage, computed.
 use Rattle.std.proofs.Common.{◌≡◌, codes, refl}
 use Rattle.std.specs.Fmt.{digits}
 use Rattle.anvil_lexer.specs.declared.error.LexErr.TheVariants as lexer
-use Rattle.anvil_parser.specs.declared.error.Counted.TheVariants as counted
-use Rattle.anvil_parser.specs.declared.error.ParseErr.TheVariants as parser
-use Rattle.anvil_tool.specs.declared.refusal.Refusal.TheVariants.{NotBuilt}
-use Rattle.anvil_tool.specs.Refused.{of_lexer, of_parser, refusal_line}
+use Rattle.anvil_grammar.specs.declared.error.Counted.TheVariants as counted
+use Rattle.anvil_grammar.specs.declared.error.ParseErr.TheVariants as parser
+use Rattle.anvil_tool.specs.Form.{usage_line}
+use Rattle.anvil_tool.specs.Refused.{not_built, of_lexer, of_parser, refusal_line}
 
 of_the_lexer : refusal_line (of_lexer (lexer.LongName 0)) ≡ codes "refused: LongName at 0\n"
 unfolding digits
@@ -15,5 +15,8 @@ of_the_parser : refusal_line (of_parser (parser.TooMany counted.Thread 283)) ≡
 unfolding digits
 of_the_parser = refl
 
-of_the_builder : refusal_line NotBuilt ≡ codes "refused: NotBuilt\n"
+of_the_builder : refusal_line not_built ≡ codes "refused: NotBuilt\n"
 of_the_builder = refl
+
+of_usage : usage_line ≡ codes "usage: anvil compile FILE\n"
+of_usage = refl

@@ -1,9 +1,12 @@
-pub mod Told
 -- The modules of the processes of a file.
 pub mod Described
--- Which refusal bytes have.
+-- Which refusal bytes have, and that they have one at most.
 pub mod Refusals
+pub mod OneRefusal
 -- The text of the modules.
 pub mod Written
+-- The form that loads one file; that at most one answer has its cause.
+pub mod OneFile
+pub mod OneAnswer
 -- Examples.
 pub mod Examples

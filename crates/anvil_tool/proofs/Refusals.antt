@@ -7,24 +7,32 @@ use Rattle.std.proofs.Common.{◌≡◌, ◌≢◌, ◌⊎◌, inr, List, ℕ, s
 use Rattle.std.specs.Prelude.{Result, Ok, Err, MatchResult, IfErr}
 use Rattle.anvil_lexer.specs.declared.token.Token.{Token}
 use Rattle.anvil_lexer.specs.declared.error.LexErr.{LexErr}
-use Rattle.anvil_lexer.specs.TokenText.{IsTokenText, IsFirstFault}
+use Rattle.anvil_lexer.specs.TokenText.{IsTokenText, IsLexRefusal}
 use Rattle.anvil_tree.specs.Tree.{File}
-use Rattle.anvil_parser.specs.declared.error.ParseErr.{ParseErr}
-use Rattle.anvil_parser.specs.Refusal.{IsAccepted, IsFirstRefusal}
+use Rattle.anvil_grammar.specs.declared.error.ParseErr.{ParseErr}
+use Rattle.anvil_grammar.specs.Refusal.{IsAccepted, IsFirstRefusal}
 use Rattle.anvil_tool.specs.declared.refusal.Refusal.{Refusal}
-use Rattle.anvil_tool.specs.declared.refusal.Refusal.TheVariants.{NotBuilt, NoMemory}
+use Rattle.anvil_tool.specs.declared.refusal.Refusal.TheVariants.{NoMemory}
 use Rattle.anvil_tool.specs.Output.{IsFileText}
-use Rattle.anvil_tool.specs.Refused.{IsRefused, by_lexer, by_parser, by_builder, of_parser, IsNotPlain}
+use Rattle.anvil_tool.specs.Refused.{IsRefused, by_lexer, by_parser, by_builder, of_lexer, of_parser, IsNotPlain, not_built}
 
 -- the bytes have these tokens alone, and no fault
 pub record AreTheTokens (bytes : List ℕ) (tokens : List Token) : Type 0 where
   pub spelled : IsTokenText bytes tokens
   pub only : (others : List Token) → IsTokenText bytes others → tokens ≡ others
-  pub faultless : (fault : LexErr) → ¬ (IsFirstFault bytes fault)
+  pub faultless : (fault : LexErr) → ¬ (IsLexRefusal bytes fault)
 
 -- a file of the bytes is one of the tokens
 pub accepted_by : (bytes : List ℕ) (tokens : List Token) (file : File) → AreTheTokens bytes tokens → IsFileText bytes file → IsAccepted tokens file
 accepted_by bytes tokens file are text = subst (λ l. IsAccepted l file) (sym (are.only text.tokens text.spelled)) text.accepted
+
+-- where the lexer failed
+pub told_by_lexer : (bytes : List ℕ) (found : Refusal) → ((tokens : List Token) → IsTokenText bytes tokens → found ≡ NoMemory)
+    → ((fault : LexErr) → IsLexRefusal bytes fault → (found ≡ of_lexer fault) ⊎ (found ≡ NoMemory))
+    → (refusal : Refusal) → IsRefused bytes refusal → (found ≡ refusal) ⊎ (found ≡ NoMemory)
+told_by_lexer bytes found no_tokens each refusal (by_lexer fault first) = each fault first
+told_by_lexer bytes found no_tokens each refusal (by_parser tokens fault spelled first) = inr (no_tokens tokens spelled)
+told_by_lexer bytes found no_tokens each refusal (by_builder file text not_plain) = inr (no_tokens text.tokens text.spelled)
 
 -- where the parser failed
 pub told_by_parser : (bytes : List ℕ) (tokens : List Token) (found : Refusal) → AreTheTokens bytes tokens
@@ -39,7 +47,7 @@ told_by_parser bytes tokens found are no_file each refusal (by_builder file text
 -- where it gave a file
 pub told_by_builder : {T : Type 0} (bytes : List ℕ) (tokens : List Token) (tree : File) (result : Result T Refusal) → AreTheTokens bytes tokens
     → ((file : File) → IsAccepted tokens file → tree ≡ file) → ((fault : ParseErr) → ¬ (IsFirstRefusal tokens fault))
-    → (IsNotPlain tree → MatchResult result (λ _. ⊥) (λ found. (found ≡ NotBuilt) ⊎ (found ≡ NoMemory)))
+    → (IsNotPlain tree → MatchResult result (λ _. ⊥) (λ found. (found ≡ not_built) ⊎ (found ≡ NoMemory)))
     → (refusal : Refusal) → IsRefused bytes refusal → MatchResult result (λ _. ⊥) (λ found. (found ≡ refusal) ⊎ (found ≡ NoMemory))
 told_by_builder bytes tokens tree result are same none each refusal (by_lexer fault first) = absurd (are.faultless fault first)
 told_by_builder bytes tokens tree result are same none each refusal (by_parser others fault spelled first) =
@@ -49,6 +57,6 @@ told_by_builder bytes tokens tree result are same none each refusal (by_builder 
 
 -- what the builder tells is a refusal of the bytes
 pub refused_by_builder : {T : Type 0} (bytes : List ℕ) (tree : File) (result : Result T Refusal) → IsFileText bytes tree
-    → IfErr result (λ refusal. refusal ≢ NoMemory → (refusal ≡ NotBuilt) × IsNotPlain tree) → IfErr result (λ refusal. refusal ≢ NoMemory → IsRefused bytes refusal)
+    → IfErr result (λ refusal. refusal ≢ NoMemory → (refusal ≡ not_built) × IsNotPlain tree) → IfErr result (λ refusal. refusal ≢ NoMemory → IsRefused bytes refusal)
 refused_by_builder bytes tree (Ok value) text told = tt
 refused_by_builder bytes tree (Err refusal) text told = λ not_memory. let (is, not_plain) = told not_memory in rw is (by_builder tree text not_plain)

@@ -1,10 +1,10 @@
 -- What is written for a file.
-use Rattle.std.specs.Prelude.{◌≡◌, ℕ, ◌≤◌, List, length, IfSome, Option}
+use Rattle.std.specs.Prelude.{ℕ, List}
 use Rattle.std.specs.List.{AllZip}
 use Rattle.anvil_lexer.specs.declared.token.Token.{Token}
 use Rattle.anvil_lexer.specs.TokenText.{IsTokenText}
 use Rattle.anvil_tree.specs.Tree.{File}
-use Rattle.anvil_parser.specs.Refusal.{IsAccepted}
+use Rattle.anvil_grammar.specs.Refusal.{IsAccepted}
 use Rattle.plain_file.specs.Plain.{Counter, IsPlainFile}
 use Rattle.sv_tree.specs.Module.{Module}
 use Rattle.sv_tree.specs.WellFormed.{IsWellFormed}
@@ -13,15 +13,6 @@ use Rattle.core_term.specs.Process.{Process}
 use Rattle.fsm_builder.specs.ModuleOf.{IsModuleOf}
 use Rattle.fsm_builder.specs.Meaning.{ShowsTheRun}
 use Rattle.fsm_builder.specs.Counting.{counting_process, IsWithinStateBits}
-
--- the most bytes of a file
-abbrev pub longest_file : ℕ
-longest_file = 1048576
-
--- bytes that a load can give: those that the shelf tells under the name, within the limit
-pub record IsLoad (told : Option (List ℕ)) (bytes : List ℕ) : Type 0 where
-  pub kept : IfSome told (λ under. bytes ≡ under)
-  pub within : length bytes ≤ longest_file
 
 -- bytes that spell the file: by their tokens, which are that file and within all limits
 pub record IsFileText (bytes : List ℕ) (file : File) : Type 0 where
@@ -34,8 +25,8 @@ abbrev pub process_of : Counter → Process
 process_of counter = counting_process counter.process counter.register counter.width counter.addend counter.cycles
 
 -- A module of a counting process: it is well-formed, has the process's name and register and no ports; by its clocked
--- meaning its source register shows what the process's run shows, in every cycle; and its registers have no more bits than
--- the bound.
+-- meaning its source register shows what the process's run shows, in every cycle; and its registers have no more bits
+-- than the bound.
 pub record IsModule (counter : Counter) (m : Module) : Type 0 where
   pub well_formed : IsWellFormed m
   pub parts : IsModuleOf counter.process counter.register counter.width m

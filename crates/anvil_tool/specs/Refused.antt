@@ -1,19 +1,19 @@
--- Why a file has no modules, and the line that tells it.
+-- Why a file has no modules, and the line that tells a refusal.
 use Rattle.std.specs.Prelude.{◌≡◌, ◌⊎◌, ℕ, List, ◌++◌, codes}
 use Rattle.std.specs.Fmt.{decimal}
 use Rattle.anvil_lexer.specs.declared.token.Token.{Token}
 use Rattle.anvil_lexer.specs.declared.error.LexErr.{LexErr}
 use Rattle.anvil_lexer.specs.declared.error.LexErr.TheVariants as lexer
-use Rattle.anvil_lexer.specs.TokenText.{IsTokenText, IsFirstFault}
+use Rattle.anvil_lexer.specs.TokenText.{IsTokenText, IsLexRefusal}
 use Rattle.anvil_tree.specs.Tree.{File}
-use Rattle.anvil_parser.specs.declared.error.ParseErr.{ParseErr}
-use Rattle.anvil_parser.specs.declared.error.ParseErr.TheVariants as parser
-use Rattle.anvil_parser.specs.Refusal.{IsFirstRefusal}
+use Rattle.anvil_grammar.specs.declared.error.ParseErr.{ParseErr}
+use Rattle.anvil_grammar.specs.declared.error.ParseErr.TheVariants as parser
+use Rattle.anvil_grammar.specs.Refusal.{IsFirstRefusal}
 use Rattle.plain_file.specs.Plain.{Counter, IsPlainFile}
 use Rattle.anvil_tool.specs.declared.refusal.Code.{Code}
 use Rattle.anvil_tool.specs.declared.refusal.Code.TheVariants as code
 use Rattle.anvil_tool.specs.declared.refusal.Refusal.{Refusal}
-use Rattle.anvil_tool.specs.declared.refusal.Refusal.TheVariants.{Placed, NotBuilt, NoMemory}
+use Rattle.anvil_tool.specs.declared.refusal.Refusal.TheVariants.{Bare, Placed, Paired, Lined, NoMemory}
 use Rattle.anvil_tool.specs.Output.{IsFileText}
 
 -- a fault of the lexer
@@ -31,15 +31,20 @@ of_parser (parser.TooDeep at) = Placed code.TooDeep at
 of_parser (parser.TooMany kind at) = Placed code.TooMany at
 of_parser parser.NoMemory = NoMemory
 
+-- the refusal of a file that is no plain one: it has no place
+abbrev pub not_built : Refusal
+not_built = Bare code.NotBuilt
+
 -- the file is plain by no list of counters
 abbrev pub IsNotPlain : File → Type 0
 IsNotPlain file = (counters : List Counter) → IsPlainFile counters file → ⊥
 
 -- Bytes are refused by the lexer, or else by the parser, or else because they spell a file that is no plain one.
 pub data IsRefused (bytes : List ℕ) : Refusal → Type 0 where
-  by_lexer : (fault : LexErr) → IsFirstFault bytes fault → IsRefused bytes (of_lexer fault)
-  by_parser : (tokens : List Token) (fault : ParseErr) → IsTokenText bytes tokens → IsFirstRefusal tokens fault → IsRefused bytes (of_parser fault)
-  by_builder : (file : File) → IsFileText bytes file → IsNotPlain file → IsRefused bytes NotBuilt
+  by_lexer : (fault : LexErr) → IsLexRefusal bytes fault → IsRefused bytes (of_lexer fault)
+  by_parser : (tokens : List Token) (fault : ParseErr) → IsTokenText bytes tokens → IsFirstRefusal tokens fault
+      → IsRefused bytes (of_parser fault)
+  by_builder : (file : File) → IsFileText bytes file → IsNotPlain file → IsRefused bytes not_built
 
 -- The line.
 
@@ -51,14 +56,19 @@ spelling code.LongName = codes "LongName"
 spelling code.Unexpected = codes "Unexpected"
 spelling code.TooDeep = codes "TooDeep"
 spelling code.TooMany = codes "TooMany"
+spelling code.NotBuilt = codes "NotBuilt"
 
 abbrev pub no_memory_line : List ℕ
 no_memory_line = codes "no memory\n"
 
--- `refused: CODE at A` with the place in decimal, and without a place `refused: NotBuilt`
+-- `refused: CODE`, and then the place, both places, or the number of the line, in decimal
 abbrev pub refusal_line : Refusal → List ℕ
+refusal_line (Bare code) = codes "refused: " ++ (spelling code ++ codes "\n")
 refusal_line (Placed code at) = codes "refused: " ++ (spelling code ++ (codes " at " ++ (decimal at ++ codes "\n")))
-refusal_line NotBuilt = codes "refused: NotBuilt\n"
+refusal_line (Paired code at other) =
+    codes "refused: " ++
+    (spelling code ++ (codes " at " ++ (decimal at ++ (codes " and " ++ (decimal other ++ codes "\n")))))
+refusal_line (Lined code line) = codes "refused: " ++ (spelling code ++ (codes " at " ++ (decimal line ++ codes "\n")))
 refusal_line NoMemory = no_memory_line
 
 -- the line of a refusal of the bytes

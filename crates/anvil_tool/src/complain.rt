@@ -29,9 +29,11 @@ pub fn complain<E: Sink>(err: &mut E, line: &[&[u8]], status: Status) -> Status
 pub fn complain_of<E: Sink>(err: &mut E, what: &[u8], file: &str, status: Status) -> Status
     requires { status ≢ Status.WriteFault }
     ensures status { (result ≡ status) ⊎ (result ≡ Status.WriteFault) }
-    ensures whole { result ≢ Status.WriteFault → Appends (E.held err.old) (E.held err.new) (what.now ++ (file.now ++ codes "\n")) }
+    ensures whole { result ≢ Status.WriteFault
+        → Appends (E.held err.old) (E.held err.new) (what.now ++ (file.now ++ codes "\n")) }
     ensures fine { result ≢ Status.WriteFault → E.faults err.new ≡ E.faults err.old }
-    ensures part { result ≡ Status.WriteFault → AppendsPrefix (E.held err.old) (E.held err.new) (what.now ++ (file.now ++ codes "\n")) }
+    ensures part { result ≡ Status.WriteFault
+        → AppendsPrefix (E.held err.old) (E.held err.new) (what.now ++ (file.now ++ codes "\n")) }
     ensures cause { result ≡ Status.WriteFault → Rose (E.faults err.old) (E.faults err.new) }
     ensures later { E.faults err.old ≤ E.faults err.new }
 {
@@ -50,18 +52,24 @@ pub fn complain_refusal<E: Sink>(err: &mut E, refusal: Refusal) -> Status
     ensures later { E.faults err.old ≤ E.faults err.new }
 {
     match refusal {
+        Refusal::Bare { code } => {
+            complain(err, &[b"refused: ", spelling(code), b"\n"], Status::Refused)
+        }
         Refusal::Placed { code, at } => complain_at(err, code, at),
-        Refusal::NotBuilt => complain(err, &[b"refused: NotBuilt\n"], Status::Refused),
+        Refusal::Paired { code, at, other } => complain_at_both(err, code, at, other),
+        Refusal::Lined { code, line } => complain_at(err, code, line),
         Refusal::NoMemory => complain(err, &[b"no memory\n"], Status::NoMemory),
     }
 }
 
-// The line of a refusal at a place.
+// The line of a refusal at a place or a line.
 fn complain_at<E: Sink>(err: &mut E, code: Code, at: u32) -> Status
     ensures status { (result ≡ Status.Refused) ⊎ (result ≡ Status.WriteFault) }
-    ensures whole { result ≢ Status.WriteFault → Appends (E.held err.old) (E.held err.new) (refusal_line (Refusal.Placed code at)) }
+    ensures whole { result ≢ Status.WriteFault
+        → Appends (E.held err.old) (E.held err.new) (refusal_line (Refusal.Placed code at)) }
     ensures fine { result ≢ Status.WriteFault → E.faults err.new ≡ E.faults err.old }
-    ensures part { result ≡ Status.WriteFault → AppendsPrefix (E.held err.old) (E.held err.new) (refusal_line (Refusal.Placed code at)) }
+    ensures part { result ≡ Status.WriteFault
+        → AppendsPrefix (E.held err.old) (E.held err.new) (refusal_line (Refusal.Placed code at)) }
     ensures cause { result ≡ Status.WriteFault → Rose (E.faults err.old) (E.faults err.new) }
     ensures later { E.faults err.old ≤ E.faults err.new }
 {
@@ -71,6 +79,31 @@ fn complain_at<E: Sink>(err: &mut E, code: Code, at: u32) -> Status
         spelling(code),
         b" at ",
         place.format(at).as_bytes(),
+        b"\n",
+    ];
+    complain(err, &line, Status::Refused)
+}
+
+// The line of a refusal at two places.
+fn complain_at_both<E: Sink>(err: &mut E, code: Code, at: u32, other: u32) -> Status
+    ensures status { (result ≡ Status.Refused) ⊎ (result ≡ Status.WriteFault) }
+    ensures whole { result ≢ Status.WriteFault →
+        Appends (E.held err.old) (E.held err.new) (refusal_line (Refusal.Paired code at other)) }
+    ensures fine { result ≢ Status.WriteFault → E.faults err.new ≡ E.faults err.old }
+    ensures part { result ≡ Status.WriteFault →
+        AppendsPrefix (E.held err.old) (E.held err.new) (refusal_line (Refusal.Paired code at other)) }
+    ensures cause { result ≡ Status.WriteFault → Rose (E.faults err.old) (E.faults err.new) }
+    ensures later { E.faults err.old ≤ E.faults err.new }
+{
+    let mut first = Buffer::new();
+    let mut second = Buffer::new();
+    let line: [&[u8]; 7] = [
+        b"refused: ",
+        spelling(code),
+        b" at ",
+        first.format(at).as_bytes(),
+        b" and ",
+        second.format(other).as_bytes(),
         b"\n",
     ];
     complain(err, &line, Status::Refused)

@@ -6,6 +6,7 @@
 
 mod compile;
 mod complain;
+mod laws;
 mod modules;
 mod refusal;
 mod status;
@@ -13,5 +14,6 @@ mod tool;
 mod words;
 
 pub use anvil_io::{FsShelf, LoadErr, MemShelf, MemSink, Shelf, Sink, SinkFault, StdSink};
+pub use laws::has_one_answer;
 pub use status::Status;
 pub use tool::run_tool;

@@ -2,16 +2,16 @@
 ghost use Rattle.std.specs.Prelude.{◌≡◌, ◌≢◌, ◌⊎◌, ◌≤◌, ◌^◌, List, ℕ, length, map, IfErr, IfOk, MatchOption, MatchResult};
 ghost use Rattle.std.specs.List.{All};
 ghost use Rattle.anvil_lexer.specs.declared.token.Token.{Token as SpelledToken};
-ghost use Rattle.anvil_lexer.specs.TokenText.{AreClosed, ArePlacesRising, IsFirstFault, IsTokenText};
+ghost use Rattle.anvil_lexer.specs.TokenText.{AreClosed, ArePlacesRising, IsLexRefusal, IsTokenText};
 ghost use Rattle.anvil_tree.specs.Tree as tree;
 ghost use Rattle.anvil_tree.specs.View.{file_of};
-ghost use Rattle.anvil_parser.specs.Refusal.{IsAccepted, IsFirstRefusal};
+ghost use Rattle.anvil_grammar.specs.Refusal.{IsAccepted, IsFirstRefusal};
 ghost use Rattle.plain_file.specs.Plain.{Counter, IsCounter, IsPlainFile};
 ghost use Rattle.plain_file.specs.Seen.{counter_of};
 ghost use Rattle.anvil_tool.specs.Output.{AreModules, AreModulesOf, AreModulesOfFile, IsFileText, IsModule};
-ghost use Rattle.anvil_tool.specs.Refused.{IsNotPlain, IsRefused, of_lexer, of_parser};
+ghost use Rattle.anvil_tool.specs.Refused.{IsNotPlain, IsRefused, not_built, of_lexer, of_parser};
 
-use crate::refusal::{Refusal, of_lexer, of_parser};
+use crate::refusal::{Code, Refusal, of_lexer, of_parser};
 use anvil_lexer::{LexErr, Token, lex};
 use anvil_parser::{ParseErr, parse};
 use anvil_tree::File;
@@ -19,29 +19,29 @@ use fsm_builder::{Bits, SvModule, build_counter};
 use plain_file::{Plain, read_plain};
 use std::alloc::{AllocError, Global};
 
-// The module of a process.
-fn module_of(alloc: Global, plain: &Plain<'_>) -> Result<SvModule, AllocError>
-    requires { IsCounter (counter_of plain.now) }
-    ensures { IfOk result (IsModule (counter_of plain.now)) }
+// The module of a counting process.
+fn module_of(alloc: Global, counter: &Plain<'_>) -> Result<SvModule, AllocError>
+    requires { IsCounter (counter_of counter.now) }
+    ensures { IfOk result (IsModule (counter_of counter.now)) }
 {
-    let addend = Bits::new(plain.width, plain.addend);
+    let addend = Bits::new(counter.width, counter.addend);
     build_counter(
         alloc,
-        plain.process.copy(),
-        plain.register.copy(),
+        counter.process.copy(),
+        counter.register.copy(),
         addend,
-        plain.cycles,
+        counter.cycles,
     )
 }
 
 // The modules of processes, in their order.
-fn modules_of(alloc: Global, plains: &[Plain<'_>]) -> Result<Vec<SvModule>, AllocError>
-    requires { All (λ plain. IsCounter (counter_of plain)) plains.now }
-    ensures { IfOk result (λ modules. AreModules (map counter_of plains.now) modules.items) }
+fn modules_of(alloc: Global, counters: &[Plain<'_>]) -> Result<Vec<SvModule>, AllocError>
+    requires { All (λ counter. IsCounter (counter_of counter)) counters.now }
+    ensures { IfOk result (λ modules. AreModules (map counter_of counters.now) modules.items) }
 {
     let mut modules = Vec::new(alloc);
-    for plain in plains {
-        modules.push(module_of(alloc, plain)?)?;
+    for counter in counters {
+        modules.push(module_of(alloc, counter)?)?;
     }
     Ok(modules)
 }
@@ -49,17 +49,22 @@ fn modules_of(alloc: Global, plains: &[Plain<'_>]) -> Result<Vec<SvModule>, Allo
 // The modules of a file, or that it is no plain one.
 fn modules_of_file(alloc: Global, file: &File) -> Result<Vec<SvModule>, Refusal>
     ensures modules { IfOk result (λ modules. AreModulesOfFile (file_of file.now) modules.items) }
-    ensures refused { IfErr result (λ refusal. refusal ≢ Refusal.NoMemory → (refusal ≡ Refusal.NotBuilt) × IsNotPlain (file_of file.now)) }
-    ensures plain { (counters : List Counter) → IsPlainFile counters (file_of file.now) → IfErr result (λ refusal. refusal ≡ Refusal.NoMemory) }
-    ensures not_plain { IsNotPlain (file_of file.now) → MatchResult result (λ _. ⊥) (λ refusal. (refusal ≡ Refusal.NotBuilt) ⊎ (refusal ≡ Refusal.NoMemory)) }
+    ensures refused { IfErr result
+        (λ refusal. refusal ≢ Refusal.NoMemory → (refusal ≡ not_built) × IsNotPlain (file_of file.now)) }
+    ensures plain { (counters : List Counter) → IsPlainFile counters (file_of file.now)
+        → IfErr result (λ refusal. refusal ≡ Refusal.NoMemory) }
+    ensures not_plain { IsNotPlain (file_of file.now)
+        → MatchResult result (λ _. ⊥) (λ refusal. (refusal ≡ not_built) ⊎ (refusal ≡ Refusal.NoMemory)) }
 {
     let Ok(found) = read_plain(alloc, file) else {
         return Err(Refusal::NoMemory);
     };
-    let Some(plains) = found else {
-        return Err(Refusal::NotBuilt);
+    let Some(counters) = found else {
+        return Err(Refusal::Bare {
+            code: Code::NotBuilt,
+        });
     };
-    match modules_of(alloc, &plains) {
+    match modules_of(alloc, &counters) {
         Ok(modules) => Ok(modules),
         Err(_) => Err(Refusal::NoMemory),
     }
@@ -71,9 +76,11 @@ fn tokens_of(alloc: Global, bytes: &[u8]) -> Result<Vec<Token>, Refusal>
     ensures tokens { IfOk result (λ tokens. IsTokenText bytes.now tokens.items) }
     ensures closed { IfOk result (λ tokens. AreClosed tokens.items) }
     ensures rising { IfOk result (λ tokens. ArePlacesRising tokens.items) }
-    ensures every_text { (tokens : List SpelledToken) → IsTokenText bytes.now tokens → MatchResult result (λ found. found.items ≡ tokens) (λ refusal. refusal ≡ Refusal.NoMemory) }
+    ensures every_text { (tokens : List SpelledToken) → IsTokenText bytes.now tokens
+        → MatchResult result (λ found. found.items ≡ tokens) (λ refusal. refusal ≡ Refusal.NoMemory) }
     ensures refused { IfErr result (λ refusal. refusal ≢ Refusal.NoMemory → IsRefused bytes.now refusal) }
-    ensures every_fault { (fault : LexErr) → IsFirstFault bytes.now fault → MatchResult result (λ _. ⊥) (λ refusal. (refusal ≡ of_lexer fault) ⊎ (refusal ≡ Refusal.NoMemory)) }
+    ensures every_refusal { (fault : LexErr) → IsLexRefusal bytes.now fault
+        → MatchResult result (λ _. ⊥) (λ refusal. (refusal ≡ of_lexer fault) ⊎ (refusal ≡ Refusal.NoMemory)) }
 {
     match lex(alloc, bytes) {
         Ok(tokens) => Ok(tokens),
@@ -86,9 +93,13 @@ fn tree_of(alloc: Global, tokens: &[Token]) -> Result<File, Refusal>
     requires closed { AreClosed tokens.now }
     requires rising { ArePlacesRising tokens.now }
     ensures tree { IfOk result (λ file. IsAccepted tokens.now (file_of file)) }
-    ensures every_file { (file : tree.File) → IsAccepted tokens.now file → MatchResult result (λ found. file_of found ≡ file) (λ refusal. refusal ≡ Refusal.NoMemory) }
-    ensures refused { IfErr result (λ refusal. refusal ≢ Refusal.NoMemory → (fault : ParseErr) × IsFirstRefusal tokens.now fault × (refusal ≡ of_parser fault)) }
-    ensures every_refusal { (fault : ParseErr) → IsFirstRefusal tokens.now fault → MatchResult result (λ _. ⊥) (λ refusal. (refusal ≡ of_parser fault) ⊎ (refusal ≡ Refusal.NoMemory)) }
+    ensures every_file { (file : tree.File) → IsAccepted tokens.now file
+        → MatchResult result (λ found. file_of found ≡ file) (λ refusal. refusal ≡ Refusal.NoMemory) }
+    ensures refused { IfErr result
+        (λ refusal. refusal ≢ Refusal.NoMemory
+        → (fault : ParseErr) × IsFirstRefusal tokens.now fault × (refusal ≡ of_parser fault)) }
+    ensures every_refusal { (fault : ParseErr) → IsFirstRefusal tokens.now fault
+        → MatchResult result (λ _. ⊥) (λ refusal. (refusal ≡ of_parser fault) ⊎ (refusal ≡ Refusal.NoMemory)) }
 {
     match parse(alloc, tokens) {
         Ok(file) => Ok(file),
@@ -97,12 +108,14 @@ fn tree_of(alloc: Global, tokens: &[Token]) -> Result<File, Refusal>
 }
 
 /// The modules of the processes of the plain file that the bytes spell, or why there are none.
-pub(crate) fn read_modules(alloc: Global, bytes: &[u8]) -> Result<Vec<SvModule>, Refusal>
+pub(crate) fn modules_of_bytes(alloc: Global, bytes: &[u8]) -> Result<Vec<SvModule>, Refusal>
     requires { length bytes.now ≤ 2 ^ 20 }
     ensures modules { IfOk result (λ modules. AreModulesOf bytes.now modules.items) }
     ensures refused { IfErr result (λ refusal. refusal ≢ Refusal.NoMemory → IsRefused bytes.now refusal) }
-    ensures every_refusal { (refusal : Refusal) → IsRefused bytes.now refusal → MatchResult result (λ _. ⊥) (λ found. (found ≡ refusal) ⊎ (found ≡ Refusal.NoMemory)) }
-    ensures every_file { (file : tree.File) (counters : List Counter) → IsFileText bytes.now file → IsPlainFile counters file → IfErr result (λ refusal. refusal ≡ Refusal.NoMemory) }
+    ensures every_refusal { (refusal : Refusal) → IsRefused bytes.now refusal
+        → MatchResult result (λ _. ⊥) (λ found. (found ≡ refusal) ⊎ (found ≡ Refusal.NoMemory)) }
+    ensures every_file { (file : tree.File) (counters : List Counter) → IsFileText bytes.now file
+        → IsPlainFile counters file → IfErr result (λ refusal. refusal ≡ Refusal.NoMemory) }
 {
     let tokens = match tokens_of(alloc, bytes) {
         Ok(tokens) => tokens,

@@ -5,7 +5,7 @@ ghost use Rattle.anvil_tool.specs.Refused.{of_lexer, of_parser, spelling};
 use anvil_lexer::LexErr;
 use anvil_parser::ParseErr;
 
-/// What a place of the file is refused for.
+/// What is refused.
 #[derive(Clone, Copy)]
 pub(crate) enum Code {
     NotUtf8,
@@ -15,16 +15,21 @@ pub(crate) enum Code {
     Unexpected,
     TooDeep,
     TooMany,
+    NotBuilt,
 }
 
-/// Why a file has no modules.
+/// Why a command gives no output, and where: places are byte offsets, lines are counted from 1.
 #[derive(Clone, Copy)]
 pub(crate) enum Refusal {
-    /// By the lexer or the parser, at a byte offset.
+    /// It has no place.
+    Bare { code: Code },
+    /// At one place.
     Placed { code: Code, at: u32 },
-    /// It is a file of the language, and no plain one.
-    NotBuilt,
-    /// Not by itself: no memory was found.
+    /// At two places.
+    Paired { code: Code, at: u32, other: u32 },
+    /// At a line.
+    Lined { code: Code, line: u32 },
+    /// No refusal by itself: no memory was found.
     NoMemory,
 }
 
@@ -40,6 +45,7 @@ pub(crate) fn spelling(code: Code) -> &'static [u8]
         Code::Unexpected => b"Unexpected",
         Code::TooDeep => b"TooDeep",
         Code::TooMany => b"TooMany",
+        Code::NotBuilt => b"NotBuilt",
     }
 }
 

@@ -13,7 +13,7 @@ use Rattle.core_term.specs.Stands.{here, Stands, in_then, in_one, after_then}
 use Rattle.core_term.specs.Term.{Expr, Var, Term, One, Then, Act, Cycle, Send, Recv, site, head}
 use Rattle.core_term.specs.Points.{Spot, TermBegin, TermEnd, Begin, End, forms}
 use Rattle.core_term.specs.Numbering.{size, Numbered}
-use Rattle.core_term.specs.Tail.{IsTail}
+use Rattle.core_term.specs.Tail.{IsTail, CyclesTakeTime}
 use Rattle.core_term.specs.Order.{IsFormed, HasForm, point, Precedes}
 use Rattle.core_term.specs.Lives.{LastPrecedes}
 use Rattle.core_term.specs.Sources.{expr_sources, sources_in, Source, WireOf, RegOf, ChoiceOf}
@@ -22,7 +22,7 @@ use Rattle.core_term.specs.Process.{LifeEnd, Cycles, Until, Thread, IsThread, Is
 use Rattle.core_term.specs.Acts.{HasAct, Receives, Sends, OnPort, Sets, Reads, Uses}
 use Rattle.core_term.specs.declared.rules.Rule.{Rule}
 use Rattle.core_term.specs.Safe.{RunsSafely}
-use Rattle.core_term.specs.Rules.{Claim, Holds, Demands, RestsOn, IsAccepted, Meets, made, sets, receives, sends, sends_next, wire_within, wire_until, set_elsewhere, set_here, choice}
+use Rattle.core_term.specs.Rules.{Claim, Holds, Demands, RestsOn, KeepsDemands, Meets, made, sets, receives, sends, sends_next, wire_within, wire_until, set_elsewhere, set_here, choice}
 use Rattle.order_rules.specs.Last as last
 use Rattle.order_rules.specs.Before as order
 use Rattle.core_term.proofs.ExampleProcesses.{echo}
@@ -167,7 +167,7 @@ thread_is (suc j) thread k = elim k [ ]
 on_thread : (P : ℕ → Thread → Type 0) → P 0 (record { body = body; count = 3 }) → (j : ℕ) (thread : Thread) → IsThread echo.threads j thread → P j thread
 on_thread P k j thread is = let z = thread_is j thread is in let y : P 0 thread = subst (λ t. P 0 t) z.1 k in rw z.0 y
 
-pub is_accepted : IsAccepted echo
+pub is_accepted : KeepsDemands echo
 is_accepted = on_thread (λ j thread. Meets echo j thread.body) accepted_body
 
 life_is : (m : ℕ) (e : LifeEnd) → Has (life_of echo m) e → ((m ≡ 0) × (e ≡ Until 1)) ⊎ ((m ≡ 1) × (e ≡ Cycles 1))
@@ -182,6 +182,7 @@ is_process = record {
   numbered = on_thread (λ j thread. Numbered [] 0 thread.body) (refl, ((refl, λ y k. inl k), refl));
   counted = on_thread (λ j thread. thread.count ≡ size thread.body) refl;
   takes_time = on_thread (λ j thread. IsTail thread.body) (omega arith);
+  cycles = on_thread (λ j thread. CyclesTakeTime thread.body) (tt, (tt, omega arith));
   lasts = λ m k e. elim (life_is m (Cycles k) e) [ inl i ↦ let z = i.1 in absurd cc | inr i ↦ let z = i.1 in let k_is : k ≡ 1 = cc in omega arith ];
   same_endpoint = λ m n e. elim (life_is m (Until n) e) [ inl i ↦ let z = i.1 in let n_is : n ≡ 1 = cc in rw (i.0, n_is) refl | inr i ↦ let z = i.1 in absurd cc ];
   receives = λ j thread w m is a. on_thread (λ j thread. HasAct thread.body w (λ a. Receives a m) → is_received echo m ≡ true) (λ a. let z = (a_recv w m a).1 in rw z refl) j thread is a;

@@ -15,7 +15,7 @@ use Rattle.core_term.specs.Acts.{OnPort, Sends, Uses}
 use Rattle.core_term.specs.Wires.{InLife}
 use Rattle.core_term.specs.Outputs.{Offer, offered, driven, has, valid_wire, ack_wire, data_wire, shown_data, data_of, sent_value, wires}
 use Rattle.core_term.specs.History.{IsHistory}
-use Rattle.core_term.specs.Rules.{IsAccepted}
+use Rattle.core_term.specs.Rules.{KeepsDemands}
 use Rattle.core_term.specs.Log.{Begun, InUse}
 use Rattle.core_term.specs.Reread.{Reread, IsReread, Begins, Offers, deciding}
 use Rattle.core_term.specs.Agreement.{Shows, AgreesAt}
@@ -80,7 +80,7 @@ send_in_use p inputs registers scope s c m (Wait q y) k l l' f = elim k [ ]
 send_in_use p inputs registers scope s c m (Pure q e) k l l' f = elim k [ ]
 send_in_use p inputs registers scope s c m (Nothing q) k l l' f = elim k [ ]
 
-module _ (p : Process) (process : IsProcess p) (accepted : IsAccepted p) (inputs : Inputs) (registers : ℕ → ℕ → ℕ) (history : IsHistory p inputs registers) (run : Reread) (again : IsReread p inputs run)
+module _ (p : Process) (process : IsProcess p) (accepted : KeepsDemands p) (inputs : Inputs) (registers : ℕ → ℕ → ℕ) (history : IsHistory p inputs registers) (run : Reread) (again : IsReread p inputs run)
     (t : ℕ) (short : t < inputs.count) (promised : Promised p process accepted inputs registers history run again t) where
   same : Same p process accepted inputs registers history run again t
   same = same_at p process accepted inputs registers history run again t short promised

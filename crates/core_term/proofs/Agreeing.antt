@@ -26,7 +26,7 @@ use Rattle.core_term.specs.Wires.{IsKept}
 use Rattle.core_term.specs.Outputs.{wires, data_wire, has}
 use Rattle.core_term.specs.History.{written_by, get_else, IsHistory}
 use Rattle.core_term.proofs.Premises.{UsesAtOnce, MadeFirst, ChoicesKept}
-use Rattle.core_term.specs.Rules.{Holds, use_by, RestsOn, IsAccepted}
+use Rattle.core_term.specs.Rules.{Holds, use_by, RestsOn, KeepsDemands}
 use Rattle.core_term.specs.Log.{Begun, InUse}
 use Rattle.core_term.specs.Safe.{IsSafe}
 use Rattle.core_term.proofs.FreshAtoms.{IsFresh}
@@ -81,7 +81,7 @@ uses_reads (Wait p z) e y k m = elim k [ ]
 uses_reads (Pure p f) e y k m = elim k [ ]
 uses_reads (Nothing p) e y k m = elim k [ ]
 
-module _ (p : Process) (process : IsProcess p) (accepted : IsAccepted p) (inputs : Inputs) (registers : ℕ → ℕ → ℕ) (history : IsHistory p inputs registers) (run : Reread) (again : IsReread p inputs run) where
+module _ (p : Process) (process : IsProcess p) (accepted : KeepsDemands p) (inputs : Inputs) (registers : ℕ → ℕ → ℕ) (history : IsHistory p inputs registers) (run : Reread) (again : IsReread p inputs run) where
   safe_run : IsSafe p inputs registers
   safe_run = safe p process accepted inputs registers
 
@@ -150,9 +150,9 @@ module _ (p : Process) (process : IsProcess p) (accepted : IsAccepted p) (inputs
           safe_register p process accepted inputs registers j turn place c r t (record { thread = thread; is = is; act = b; expr = e; uses = uses; in_use = in_cycle; has = has }) i thread' is' turn' place' a sets y (omega arith)
 
   -- a side that was taken is the latest
-  choice_fresh : (c : ℕ) → Same c → (j : ℕ) (thread : Thread) (is : IsThread p.threads j thread) (turn place : ℕ) (b : Begun inputs registers thread.body turn place) (e : Expr) → Uses (head b.term) e → InUse p inputs registers b.scope b.begin (head b.term) c
+  choice_fresh : (c : ℕ) → c < inputs.count → Same c → (j : ℕ) (thread : Thread) (is : IsThread p.threads j thread) (turn place : ℕ) (b : Begun inputs registers thread.body turn place) (e : Expr) → Uses (head b.term) e → InUse p inputs registers b.scope b.begin (head b.term) c
       → (q t : ℕ) → Has (value registers b.scope b.begin e).atoms (Choice q t) → run.side j q c ≡ choice_of j thread is q t
-  choice_fresh c same j thread is turn place b e uses in_cycle q t has = go r.0 r.1 r.2
+  choice_fresh c short same j thread is turn place b e uses in_cycle q t has = go r.0 r.1 r.2
     where
       r : (a : Source) × RestsOn thread.body b.term a × Matches inputs (sees registers) (run_of inputs (sees registers) thread.body turn) a (Choice q t)
       r = rests p process inputs registers j thread is turn place b e uses (Choice q t) has
@@ -172,7 +172,9 @@ module _ (p : Process) (process : IsProcess p) (accepted : IsAccepted p) (inputs
           let P : ℕ → Type 0 = λ z. run_of inputs (sees registers) thread.body turn z ≡ Runs k.2.0 t k.2.1 in
           let here : Original thread.body turn q ≡ Runs k.2.0 t k.2.1 = subst P (sym k.0) k.2.3 in
           let o = (same.fates j thread is turn q).there k.2.0 t k.2.1 here l in
-          (again.decides j thread is).latest turn q o.0 t k.2.1 k.2.2 c o.1 k.2.4 l none_later ∙ same.decided j thread is turn q k.2.0 t k.2.1 k.2.2 here k.2.4 l
+          (again.decides j thread is).latest turn q c short (record { scope = o.0; begin = t; term = k.2.1; runs = o.1 }) k.2.2 k.2.4 l
+          (λ i a. none_later i a.scope a.begin a.term a.runs)
+          ∙ same.decided j thread is turn q k.2.0 t k.2.1 k.2.2 here k.2.4 l
 
   -- a value in use is what is read again
   pub use_again : (c : ℕ) → c < inputs.count → Same c → Promised c → (j : ℕ) (thread : Thread) (is : IsThread p.threads j thread) (turn place : ℕ) (b : Begun inputs registers thread.body turn place) (e : Expr) → Uses (head b.term) e → InUse p inputs registers b.scope b.begin (head b.term) c
@@ -185,7 +187,7 @@ module _ (p : Process) (process : IsProcess p) (accepted : IsAccepted p) (inputs
       fresh : (a : Atom) → Has (value registers b.scope b.begin e).atoms a → IsFresh (sight inputs run.registers (run.side j) c) inputs.data_at registers (choice_of j thread is) a
       fresh (Wire m t) has = wire_fresh c promised j thread is turn place b e uses in_cycle m t has
       fresh (Register r t) has = same.registers_same c r (omega arith) ∙ register_fresh c short j thread is turn place b e uses in_cycle r t has
-      fresh (Choice q t) has = choice_fresh c same j thread is turn place b e uses in_cycle q t has
+      fresh (Choice q t) has = choice_fresh c short same j thread is turn place b e uses in_cycle q t has
 
   set_in_use : (scope : ℕ → Outcome) (s c r : ℕ) (a : Act) → Sets a r → c ≡ s → InUse p inputs registers scope s a c
   set_in_use scope s c r (Set q n e) k i = i

@@ -8,7 +8,7 @@ use Rattle.core_term.specs.Process.{LifeEnd, Cycles, Until, Process, life_of, is
 use Rattle.core_term.specs.Wires.{Wires, Exchange, WithinAll, IsKept}
 use Rattle.core_term.specs.Outputs.{wires, data_wire}
 use Rattle.core_term.specs.History.{IsHistory}
-use Rattle.core_term.specs.Rules.{IsAccepted}
+use Rattle.core_term.specs.Rules.{KeepsDemands}
 use Rattle.core_term.specs.Reread.{Reread, IsReread}
 use Rattle.core_term.specs.Agreement.{AgreesAt}
 use Rattle.core_term.proofs.Agreed.{agrees}
@@ -28,7 +28,7 @@ module _ (t : ℕ) (w w' : Wires) (there : (n c : ℕ) → c < t → Exchange w 
           same u ∙ (kept s u (back m s (omega arith) e) l (i.0, within_same life s u l i.1) ∙ sym (same s))
       go false f = let z : u ≤ s = grind (arith, nat_tests) in let y : s ≤ u = i.0 in let v : u ≡ s = omega arith in ap (w'.data_at m) v
 
-module _ (p : Process) (process : IsProcess p) (accepted : IsAccepted p) (inputs : Inputs) (registers : ℕ → ℕ → ℕ) (history : IsHistory p inputs registers) (run : Reread) (again : IsReread p inputs run)
+module _ (p : Process) (process : IsProcess p) (accepted : KeepsDemands p) (inputs : Inputs) (registers : ℕ → ℕ → ℕ) (history : IsHistory p inputs registers) (run : Reread) (again : IsReread p inputs run)
     (t : ℕ) (short : t < inputs.count) (earlier : (s : ℕ) → s < t → (m : ℕ) → is_received p m ≡ true → IsKept (wires p inputs registers) (life_of p m) m s) where
   alike : (s : ℕ) → s < t → AgreesAt p (wires p inputs registers) run.wires registers run.registers s
   alike s l = agrees p process accepted inputs registers history run again s (omega arith) (earlier s l)

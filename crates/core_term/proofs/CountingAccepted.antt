@@ -2,19 +2,18 @@
 --
 -- Its one use of a value is that of the set, which uses the register as it reads it: the claim holds of the begin of the set and
 -- itself. It has one set, no port and no `if`, so no other demand speaks of it.
-use Rattle.std.proofs.Common.{◌≡◌, ℕ, ◌<◌, ◌⊎◌, inl, inr, arith, refl, sym, ◌∙◌, ap, subst, List, [], ◌∷◌, ◌++◌, map, zero, suc}
+use Rattle.std.proofs.Common.{◌≡◌, ℕ, inl, inr, arith, refl, sym, ◌∙◌, ap, subst, List, [], ◌∷◌, ◌++◌, map, zero, suc}
 use Rattle.std.specs.Prelude.{pos}
 use Rattle.std.proofs.lemmas.Int.{ints}
 use Rattle.order_rules.specs.Before as order
 use Rattle.core_term.specs.declared.operators.BinOp.TheVariants.{Add}
-use Rattle.core_term.specs.declared.rules.Rule.{Rule}
 use Rattle.core_term.specs.Lists.{Has}
 use Rattle.core_term.specs.Term.{Expr, Lit, Reg, Bin, Term, One, Act, Cycle, Set, site, head}
 use Rattle.core_term.specs.Stands.{Stands, here, in_one, in_then, after_then}
 use Rattle.core_term.specs.Acts.{HasAct, Uses, Reads, Sets, Receives, Sends}
 use Rattle.core_term.specs.Process.{Process, Thread, IsThread}
-use Rattle.core_term.specs.Sources.{Source, RegOf, WireOf, ChoiceOf, expr_sources, sources_in}
-use Rattle.core_term.specs.Rules.{Claim, Holds, Demands, RestsOn, Meets, IsAccepted, use_by, begin_of, made, sets, receives, sends, sends_next, wire_within, wire_until, set_elsewhere, set_here, choice}
+use Rattle.core_term.specs.Sources.{Source, RegOf, ChoiceOf, expr_sources, sources_in}
+use Rattle.core_term.specs.Rules.{Holds, RestsOn, Meets, KeepsDemands, use_by, begin_of, made, sets, receives, sends, sends_next, wire_within, wire_until, set_elsewhere, set_here, choice}
 use Rattle.core_term.specs.Widths.{Widths}
 use Rattle.core_term.specs.Example.{counting_term}
 use Rattle.core_term.specs.declared.term.CoreTerm.{CoreTerm}
@@ -104,7 +103,7 @@ thread_in widths (first ∷ rest) (suc j) thread k = let z = thread_in widths re
 abbrev pub Counts : CoreTerm → Type 0
 Counts body = (r : ℕ) × ((widths : Widths) → term_of widths body ≡ counting_term widths r)
 
-accepted_process : (proc : CoreProc) → ((body : CoreTerm) → Has proc.threads.items body → Counts body) → IsAccepted (process_in proc)
+accepted_process : (proc : CoreProc) → ((body : CoreTerm) → Has proc.threads.items body → Counts body) → KeepsDemands (process_in proc)
 accepted_process proc counts j thread is =
     let widths : Widths = widths_of (map port_of proc.ports.items) (map register_of proc.regs.items) in
     let z = thread_in widths proc.threads.items j thread is in
@@ -117,7 +116,7 @@ pub no_violations : (procs : List CoreProc) → ((proc : CoreProc) → Has procs
 no_violations procs counts =
     to_empty (file_of procs) (λ i p nth.
     let z = nth_of procs i p nth in
-    let Q : Process → Type 0 = λ p. IsAccepted p in
+    let Q : Process → Type 0 = λ p. KeepsDemands p in
     subst Q z.2 (accepted_process z.0 (counts z.0 z.1)))
 
 -- a file of one process with one thread, as pushing makes it

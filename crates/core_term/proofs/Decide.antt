@@ -206,7 +206,9 @@ module _ (inputs : Inputs) (body : Term) (numbered : Numbered [] 0 body) where
             let P : ℕ → Type 0 = λ n. run_of inputs (sees registers) body i n ≡ Runs m.2.0 t m.2.1 in
             let r : run_of inputs (sees registers) body i p ≡ Runs m.2.0 t m.2.1 = subst P (sym z) m.2.3 in
             let o = (before p before_here).there m.2.0 t m.2.1 r by_now in
-            again.latest i p o.0 t m.2.1 m.2.2 s o.1 m.2.4 by_now (none_later p t has m.2.0 m.2.1 r by_now before_here) ∙ known p t m.2.0 m.2.1 m.2.2 before_here by_now r m.2.4
+            again.latest i p s found.1.fits.1 (record { scope = o.0; begin = t; term = m.2.1; runs = o.1 }) m.2.2 m.2.4 by_now
+            (λ j a. none_later p t has m.2.0 m.2.1 r by_now before_here j a.scope a.begin a.term a.runs)
+            ∙ known p t m.2.0 m.2.1 m.2.2 before_here by_now r m.2.4
 
         fresh_atom : (a : Atom) → Has (value registers scope s f).atoms a → IsFresh g inputs.data_at registers chose a
         fresh_atom (Wire m t) has = wires m t has
@@ -221,4 +223,4 @@ module _ (inputs : Inputs) (body : Term) (numbered : Numbered [] 0 body) where
             let now = now_in g found.0 in
             let value_is : number g now f ≡ (value registers scope s f).number =
             expr_fresh inputs (sees registers) (run_of inputs (sees registers) body i) g chose scope now s f (λ y m. made_at i q scope s u e y (asks_reads (head u) f y k m)) (λ y m. found.1.known.1 y) (all_fresh _ _ fresh_atom) in
-            again.decides i q scope' s u found.0 f l e' found.1.stands k ∙ (ap (λ n. n == 1) value_is ∙ chose_is i q scope s u f e k)
+            again.decides i q l (record { scope = scope'; begin = s; term = u; runs = e' }) found.0 found.1.stands f k ∙ (ap (λ n. n == 1) value_is ∙ chose_is i q scope s u f e k)

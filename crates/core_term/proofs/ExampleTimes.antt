@@ -232,12 +232,12 @@ module _ (body : Term) (time : Point → Time) (fit : fits body time ≡ true) w
 
     -- the same for the last cycle of a life from the end of the act q on, which is not before `final`
     pub refuted_last : (life : List LifeEnd) (q : ℕ) (b : Point) (d : ℤ) (s final t : ℕ) → time (point false (End q)) ≡ At s → time b ≡ At t
-        → ((n : ℕ) → Has life (Cycles (n + 1)) → final ≤ s + n)
+        → (Has life (Cycles 0) → ⊥) → ((n : ℕ) → Has life (Cycles (n + 1)) → final ≤ s + n)
         → ((m w u : ℕ) (c : Point) → Has life (Until m) → ActOn body w m → c.spot ≡ End w → time c ≡ At u → s ≤ u → final ≤ u)
         → t < far → (pos t <ℤ (pos far +ℤ d)) → (pos t <ℤ (pos final +ℤ d)) → LastPrecedes body life q d b → ⊥
-    refuted_last life q b d s final t i j by_count by_act short near late k =
+    refuted_last life q b d s final t i j lasts by_count by_act short near late k =
         elim (last_law Point (HasForm body) (Exclusive body) far (λ b. Unit {0}) (λ b t. time b ≡ At t) (λ b. time b ≡ Lost) timed (HasEnding body life) (λ u l. u ≡ s → final ≤ l)
-        (λ n e u z. let y = by_count n e in omega arith)
+        lasts (λ n e u z. let y = by_count n e in omega arith)
         (λ c e u v o l z. by_act e.0 e.1 v c e.2 e.3 e.4 o (omega arith))
         (point false (End q)) tt k t j short near) [
           | inl lost ↦ let z : Lost ≡ At s = sym lost ∙ i in absurd cc

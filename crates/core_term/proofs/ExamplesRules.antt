@@ -2,7 +2,7 @@
 -- holds in a process that is to be accepted. Each source stands above its body.
 --
 -- That a claim fails is shown by times that obey all forms: what they are is a run of the thread in which the rule is broken.
-use Rattle.std.proofs.Common.{◌≡◌, ℕ, ◌+◌, ◌≤◌, ◌⊎◌, inl, inr, arith, refl, true, false, List, [], ◌∷◌}
+use Rattle.std.proofs.Common.{◌≡◌, ℕ, ◌+◌, ◌<◌, ◌≤◌, ◌⊎◌, inl, inr, arith, refl, true, false, List, [], ◌∷◌}
 use Rattle.std.proofs.lemmas.Int.{ints}
 use Rattle.std.specs.Prelude.{pos, ◌-ℤ◌, codes}
 use Rattle.order_rules.specs.Before.{by_same, by_side, by_sync, by_first, by_second}
@@ -83,6 +83,10 @@ pub by_count : (k final s : ℕ) → final + 1 ≡ s + k → (n : ℕ) → Cycle
 by_count k final s e n (inl i) = let j : n + 1 ≡ k = cc in omega arith
 by_count k final s e n (inr i) = absurd i
 
+pub lasts : (k : ℕ) → 0 < k → (Cycles 0 ≡ Cycles k) ⊎ ⊥ → ⊥
+lasts k l (inl i) = let j : 0 ≡ k = cc in omega arith
+lasts k l (inr i) = absurd i
+
 pub no_act : {A : Type 0} (k m : ℕ) → (Until m ≡ Cycles k) ⊎ ⊥ → A
 no_act k m (inl i) = absurd cc
 no_act k m (inr i) = absurd i
@@ -90,7 +94,7 @@ no_act k m (inr i) = absurd i
 short_promise_fails : Holds short_promise answer (rules.Last 1 1 (pos 1 -ℤ pos 1) (end_of 0)) → ⊥
 short_promise_fails k =
     refuted_last answer answer_times refl (all_together answer answer_times refl) (Cycles 1 ∷ []) 1 (end_of 0) (pos 1 -ℤ pos 1) 1 1 0 refl refl
-    (by_count 1 1 1 refl) (λ m w u c i a e o l. no_act 1 m i) (omega arith) (omega (arith, ints)) (omega (arith, ints)) k
+    (lasts 1 (omega arith)) (by_count 1 1 1 refl) (λ m w u c i a e o l. no_act 1 m i) (omega arith) (omega (arith, ints)) (omega (arith, ints)) k
 
 -- The value is promised until the answer is taken: the same with req : (logic[8]@res)
 abbrev echo_claim : Claim

@@ -16,7 +16,7 @@ use Rattle.core_term.specs.Rules as rules
 use Rattle.core_term.specs.Rules.{Claim, Order, Either, Holds, Demands, begin_of, end_of, next_begin_of, next_end_of}
 use Rattle.core_term.proofs.ExampleProcesses.{port, register}
 use Rattle.core_term.proofs.ExampleTimes.{Time, Lost, At, unreached, stage, times, refuted, refuted_last, all_together}
-use Rattle.core_term.proofs.ExamplesRules.{process, by_count, no_act}
+use Rattle.core_term.proofs.ExamplesRules.{process, lasts, by_count, no_act}
 
 -- The send of the next turn comes within the life of three cycles, which two turns show and one does not:
 -- chan cm { right m : (logic[8]@#3) }, loop { set r := *r + 8'd1 >> send p.m(*r) >> cycle 1 }
@@ -35,7 +35,7 @@ quick_times = times (stage 0 0 1 2 ∷ stage 1 1 1 2 ∷ stage 1 1 2 2 ∷ []) 2
 quick_fails : Holds (quick_process 1) (quick 1) (rules.Last 1 0 (pos 1) (next_begin_of 1)) → ⊥
 quick_fails k =
     refuted_last (quick 1) quick_times refl (all_together (quick 1) quick_times refl) (Cycles 3 ∷ []) 1 (next_begin_of 1) (pos 1) 1 3 3 refl refl
-    (by_count 3 3 1 refl) (λ m w u c i a e o l. no_act 3 m i) (omega arith) (omega (arith, ints)) (omega (arith, ints)) k
+    (lasts 3 (omega arith)) (by_count 3 3 1 refl) (λ m w u c i a e o l. no_act 3 m i) (omega arith) (omega (arith, ints)) (omega (arith, ints)) k
 
 -- with `cycle 3` it comes in the cycle after the life
 slow_demand : Demands (quick_process 3) 0 (quick 3) V5 1 1 (rules.Last 1 0 (pos 1) (next_begin_of 1))
@@ -123,7 +123,7 @@ shared_times = times (stage 0 0 1 2 ∷ stage 1 1 2 2 ∷ []) 2
 shared_fails : Holds shared_register send_register (rules.Last 0 0 (pos 0) (begin_of 0)) → ⊥
 shared_fails k =
     refuted_last send_register shared_times refl (all_together send_register shared_times refl) (Cycles 1 ∷ []) 0 (begin_of 0) (pos 0) 1 1 0 refl refl
-    (by_count 1 1 1 refl) (λ m w u c i a e o l. no_act 1 m i) (omega arith) (omega (arith, ints)) (omega (arith, ints)) k
+    (lasts 1 (omega arith)) (by_count 1 1 1 refl) (λ m w u c i a e o l. no_act 1 m i) (omega arith) (omega (arith, ints)) (omega (arith, ints)) k
 
 -- with a register of its own the thread uses the shared one in the cycle in which it reads it:
 -- loop { set b := *a >> send p.m( *b) >> cycle 1 } loop { set a := *a + 8'd1 }
@@ -185,7 +185,7 @@ held_side_apart a b (e, inr (inr (inr k))) t o = elim k [ ]
 held_side_fails : Holds held_side_process held_side (rules.Last 4 0 (pos 1) (next_begin_of 0)) → ⊥
 held_side_fails k =
     refuted_last held_side held_side_times refl held_side_apart (Cycles 3 ∷ []) 4 (next_begin_of 0) (pos 1) 1 3 3 refl refl
-    (by_count 3 3 1 refl) (λ m w u c i a e o l. no_act 3 m i) (omega arith) (omega (arith, ints)) (omega (arith, ints)) k
+    (lasts 3 (omega arith)) (by_count 3 3 1 refl) (λ m w u c i a e o l. no_act 3 m i) (omega arith) (omega (arith, ints)) (omega (arith, ints)) k
 
 -- The variable may be read before it is made: loop { { let x = recv p.req ; set r := x } >> send p.res( *r) >> cycle 1 }
 abbrev early_read : Term

@@ -47,6 +47,15 @@ pub mod Agreeing
 pub mod Agreed
 pub mod Breaks
 pub mod Told
+pub mod Formed
+pub mod Counted
+pub mod AtomOrder
+pub mod Settled
+pub mod TableRows
+pub mod AtomsFilled
+pub mod AtomsKept
+pub mod Acting
+pub mod FittingRows
 pub mod OfText
 pub mod TurnRules
 pub mod TurnTails

@@ -23,28 +23,28 @@ use Rattle.core_term.proofs.Placed.{scoped_term}
 use Rattle.core_term.proofs.Sound.{has_either}
 use Rattle.core_term.proofs.Bounds.{source_site}
 
-in_left : (all_forms more_forms : List Formed) (b : Spot) (f : Form Spot) → IsFormed all_forms b f → IsFormed (all_forms ++ more_forms) b f
+pub in_left : (all_forms more_forms : List Formed) (b : Spot) (f : Form Spot) → IsFormed all_forms b f → IsFormed (all_forms ++ more_forms) b f
 in_left [] more_forms b f k = elim k [ ]
 in_left (h ∷ all_forms) more_forms b f (inl e) = inl e
 in_left (h ∷ all_forms) more_forms b f (inr k) = inr (in_left all_forms more_forms b f k)
 
-in_right : (all_forms more_forms : List Formed) (b : Spot) (f : Form Spot) → IsFormed more_forms b f → IsFormed (all_forms ++ more_forms) b f
+pub in_right : (all_forms more_forms : List Formed) (b : Spot) (f : Form Spot) → IsFormed more_forms b f → IsFormed (all_forms ++ more_forms) b f
 in_right [] more_forms b f k = k
 in_right (h ∷ all_forms) more_forms b f k = inr (in_right all_forms more_forms b f k)
 
 -- a form that is not that of the begin of all
-abbrev Proper : Form Spot → Type 0
+abbrev pub Proper : Form Spot → Type 0
 Proper Start = ⊥
 Proper f = Unit {0}
 
-record Known (all_forms : List Formed) (b : Spot) : Type 0 where
-  form : Form Spot
-  proper : Proper form
-  formed : IsFormed all_forms b form
+pub record Known (all_forms : List Formed) (b : Spot) : Type 0 where
+  pub form : Form Spot
+  pub proper : Proper form
+  pub formed : IsFormed all_forms b form
 
 -- the forms of a part are among those of the whole
 mutual
-  part : {vs ws : List Act} {t u : Term} → Stands vs t ws u → (b : Spot) (f : Form Spot) → IsFormed (forms u) b f → IsFormed (forms t) b f
+  pub part : {vs ws : List Act} {t u : Term} → Stands vs t ws u → (b : Spot) (f : Form Spot) → IsFormed (forms u) b f → IsFormed (forms t) b f
   part here b f k = k
   part (in_one s) b f k = inr (inr (act_part s b f k))
   part (in_then {a = a} {t = t} s) b f k = inr (inr (inr (in_left (act_forms a) (forms t) b f (act_part s b f k))))
@@ -52,13 +52,13 @@ mutual
   part (after_then {a = a} {t = t} s) b f k = inr (inr (inr (in_right (act_forms a) (forms t) b f (part s b f k))))
   part (after_both {a = a} {t = t} s) b f k = inr (inr (inr (in_right (act_forms a) (forms t) b f (part s b f k))))
 
-  act_part : {vs ws : List Act} {a : Act} {u : Term} → StandsIn vs a ws u → (b : Spot) (f : Form Spot) → IsFormed (forms u) b f → IsFormed (act_forms a) b f
+  pub act_part : {vs ws : List Act} {a : Act} {u : Term} → StandsIn vs a ws u → (b : Spot) (f : Form Spot) → IsFormed (forms u) b f → IsFormed (act_forms a) b f
   act_part (in_yes {t = t} {f = g} s) b f k = inr (inr (inr (in_left (forms t) (forms g) b f (part s b f k))))
   act_part (in_no {t = t} {f = g} s) b f k = inr (inr (inr (in_right (forms t) (forms g) b f (part s b f k))))
   act_part (in_when s) b f k = inr (inr (inr (part s b f k)))
   act_part (in_block s) b f k = inr (inr (part s b f k))
 
-act_end : (a : Act) → Known (act_forms a) (End (site a))
+pub act_end : (a : Act) → Known (act_forms a) (End (site a))
 act_end (Cycle p n) = record { form = After n (Begin p); proper = tt; formed = inl refl }
 act_end (Set p r e) = record { form = After 1 (Begin p); proper = tt; formed = inl refl }
 act_end (Send p m e) = record { form = Sync (Begin p); proper = tt; formed = inl refl }
@@ -70,19 +70,19 @@ act_end (Wait p y) = record { form = _; proper = tt; formed = inl refl }
 act_end (Pure p e) = record { form = _; proper = tt; formed = inl refl }
 act_end (Nothing p) = record { form = _; proper = tt; formed = inl refl }
 
-term_end : (t : Term) → Known (forms t) (End (site (head t)))
+pub term_end : (t : Term) → Known (forms t) (End (site (head t)))
 term_end (One a) = let z = act_end a in record { form = z.form; proper = z.proper; formed = inr (inr z.formed) }
 term_end (Then a t) = let z = act_end a in record { form = z.form; proper = z.proper; formed = inr (inr (inr (in_left (act_forms a) (forms t) _ _ z.formed))) }
 term_end (Both a t) = let z = act_end a in record { form = z.form; proper = z.proper; formed = inr (inr (inr (in_left (act_forms a) (forms t) _ _ z.formed))) }
 
-term_begin : (t : Term) → Known (forms t) (Begin (site (head t)))
+pub term_begin : (t : Term) → Known (forms t) (Begin (site (head t)))
 term_begin (One a) = record { form = Same (TermBegin (site a)); proper = tt; formed = inl refl }
 term_begin (Then a t) = record { form = Same (TermBegin (site a)); proper = tt; formed = inl refl }
 term_begin (Both a t) = record { form = Same (TermBegin (site a)); proper = tt; formed = inl refl }
 
 -- a part is numbered from its own first site on
 mutual
-  numbered_at : {vs ws : List Act} {t u : Term} → Stands vs t ws u → (low : ℕ) → Numbered vs low t → (at : ℕ) × Numbered ws at u
+  pub numbered_at : {vs ws : List Act} {t u : Term} → Stands vs t ws u → (low : ℕ) → Numbered vs low t → (at : ℕ) × Numbered ws at u
   numbered_at here low n = (low, n)
   numbered_at (in_one s) low n = act_numbered_at s low n
   numbered_at (in_then s) low n = act_numbered_at s low n.0
@@ -90,17 +90,17 @@ mutual
   numbered_at (after_then {a = a} s) low n = numbered_at s (low + act_size a) n.1
   numbered_at (after_both {a = a} s) low n = numbered_at s (low + act_size a) n.1
 
-  act_numbered_at : {vs ws : List Act} {a : Act} {u : Term} → StandsIn vs a ws u → (low : ℕ) → NumberedAct vs low a → (at : ℕ) × Numbered ws at u
+  pub act_numbered_at : {vs ws : List Act} {a : Act} {u : Term} → StandsIn vs a ws u → (low : ℕ) → NumberedAct vs low a → (at : ℕ) × Numbered ws at u
   act_numbered_at (in_yes s) low n = numbered_at s (low + 1) n.1
   act_numbered_at (in_no {t = t} s) low n = numbered_at s (low + (1 + size t)) n.2
   act_numbered_at (in_when s) low n = numbered_at s (low + 1) n.1
   act_numbered_at (in_block s) low n = numbered_at s (low + 1) n.1
 
 module _ (body : Term) where
-  abbrev Real : Point → Type 0
+  abbrev pub Real : Point → Type 0
   Real = IsPoint Point (HasForm body)
 
-  real : (l : Bool) (b : Spot) → Known (forms body) b → Real (point l b)
+  pub real : (l : Bool) (b : Spot) → Known (forms body) b → Real (point l b)
   real l b k = go k.form k.proper k.formed
     where
       go : (f : Form Spot) → Proper f → IsFormed (forms body) b f → Real (point l b)
@@ -113,16 +113,16 @@ module _ (body : Term) where
       go (Merge c d) p i = (Merge (point l c) (point l d), (refl, refl, i))
 
   -- a site at which a term stands
-  abbrev IsSite : ℕ → Type 0
+  abbrev pub IsSite : ℕ → Type 0
   IsSite q = (vs : List Act) × (u : Term) × Stands [] body vs u × (site (head u) ≡ q)
 
-  begin_real : (l : Bool) (q : ℕ) → IsSite q → Real (point l (Begin q))
+  pub begin_real : (l : Bool) (q : ℕ) → IsSite q → Real (point l (Begin q))
   begin_real l q (vs, u, s, e) =
       let z = term_begin u in
       let P : ℕ → Type 0 = λ n. Real (point l (Begin n)) in
       subst P e (real l (Begin (site (head u))) (record { form = z.form; proper = z.proper; formed = part s _ _ z.formed }))
 
-  end_real : (l : Bool) (q : ℕ) → IsSite q → Real (point l (End q))
+  pub end_real : (l : Bool) (q : ℕ) → IsSite q → Real (point l (End q))
   end_real l q (vs, u, s, e) =
       let z = term_end u in
       let P : ℕ → Type 0 = λ n. Real (point l (End n)) in

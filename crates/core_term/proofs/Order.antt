@@ -47,7 +47,7 @@ module _ (inputs : Inputs) (view : Sees) where
     obeys None = rests inputs view (λ q. Waits) [] 0 body Waits idle_later numbered (record { each = λ q l m. refl }) (λ y b g. elim b [ ])
     obeys (Some s) = live inputs view (fate inputs view no_variable s body) [] 0 no_variable s body numbered (record { each = λ q l m. refl }) (λ y b. elim b [ ])
 
-    rule_in : (o : Spot → Occurrence) (all_forms : List Formed) (b : Spot) (f : Form Spot) → Obeys inputs.count o all_forms → IsFormed all_forms b f → LocalRule inputs.count o b f
+    pub rule_in : (o : Spot → Occurrence) (all_forms : List Formed) (b : Spot) (f : Form Spot) → Obeys inputs.count o all_forms → IsFormed all_forms b f → LocalRule inputs.count o b f
     rule_in o [] b f k m = elim m [ ]
     rule_in o (g ∷ more_forms) b f k (inl e) = let P : Formed → Type 0 = λ z. LocalRule inputs.count o z.spot z.form in subst P e k.0
     rule_in o (g ∷ more_forms) b f k (inr m) = rule_in o more_forms b f k.1 m
@@ -55,7 +55,7 @@ module _ (inputs : Inputs) (view : Sees) where
     pub rule : (o : Option ℕ) (b : Spot) (f : Form Spot) → IsFormed (forms body) b f → LocalRule inputs.count (occurrence inputs view (run_from inputs view body o)) b f
     rule o b f m = rule_in _ (forms body) b f (obeys o) m
 
-    head_is : site (head body) ≡ 0
+    pub head_is : site (head body) ≡ 0
     head_is = head_site [] 0 body numbered
 
     -- the begin and the end of the body
@@ -69,7 +69,7 @@ module _ (inputs : Inputs) (view : Sees) where
     pub body_end : (s : ℕ) → occurrence inputs view (run_from inputs view body (Some s)) (TermEnd (site (head body))) ≡ of_outcome (ends inputs view no_variable s body)
     body_end s = rw head_is (ap (term_end_at inputs view) (fate_head inputs view no_variable s [] 0 body numbered))
 
-    body_not_gone : (o : Option ℕ) → occurrence inputs view (run_from inputs view body o) (TermEnd (site (head body))) ≡ Gone → ⊥
+    pub body_not_gone : (o : Option ℕ) → occurrence inputs view (run_from inputs view body o) (TermEnd (site (head body))) ≡ Gone → ⊥
     body_not_gone None e = cc
     body_not_gone (Some s) e = not_gone inputs view (λ q. Waits) _ (sym (body_end s) ∙ e)
 
@@ -86,7 +86,7 @@ module _ (inputs : Inputs) (view : Sees) where
             done true e = let m : c ≡ t = cc in ap At m
             done false e = absurd cc
 
-    next_to : (o : Option ℕ) (t : ℕ) → t < inputs.count → occurrence inputs view (run_from inputs view body o) (TermEnd (site (head body))) ≡ At t → next_begin inputs view body o ≡ Some t
+    pub next_to : (o : Option ℕ) (t : ℕ) → t < inputs.count → occurrence inputs view (run_from inputs view body o) (TermEnd (site (head body))) ≡ At t → next_begin inputs view body o ≡ Some t
     next_to None t l e = absurd (idle_not idle_later e)
     next_to (Some s) t l e = go (ends inputs view no_variable s body) (sym (body_end s) ∙ e)
       where
@@ -98,7 +98,7 @@ module _ (inputs : Inputs) (view : Sees) where
     pub next_after : (o : Option ℕ) (s t : ℕ) → o ≡ Some s → next_begin inputs view body o ≡ Some t → s ≤ t
     next_after o s t e k = let k' : next_begin inputs view body (Some s) ≡ Some t = rw e at k in from no_variable s body t (sym (body_end s) ∙ next_from (Some s) t k')
 
-    before_some : (o : Option ℕ) (t : ℕ) → next_begin inputs view body o ≡ Some t → (s : ℕ) × (o ≡ Some s)
+    pub before_some : (o : Option ℕ) (t : ℕ) → next_begin inputs view body o ≡ Some t → (s : ℕ) × (o ≡ Some s)
     before_some None t e = absurd cc
     before_some (Some s) t e = (s, refl)
 

@@ -10,7 +10,7 @@ use Rattle.core_term.specs.Inputs.{Inputs}
 use Rattle.core_term.specs.Ends.{Sees, sees}
 use Rattle.core_term.specs.Fate.{Runs}
 use Rattle.core_term.specs.Numbering.{size, Numbered}
-use Rattle.core_term.specs.Tail.{IsTail}
+use Rattle.core_term.specs.Tail.{IsTail, CyclesTakeTime}
 use Rattle.core_term.specs.Turns.{run_of}
 use Rattle.core_term.specs.Acts.{Asks, HasAct, Receives, Sends, OnPort, Sets, Uses}
 use Rattle.core_term.specs.Lists.{Has}
@@ -70,6 +70,7 @@ process = record {
   numbered = on_thread (λ j thread. Numbered [] 0 thread.body) numbered;
   counted = on_thread (λ j thread. thread.count ≡ size thread.body) refl;
   takes_time = on_thread (λ j thread. IsTail thread.body) (omega arith);
+  cycles = on_thread (λ j thread. CyclesTakeTime thread.body) (tt, omega arith);
   lasts = λ m k e. absurd (no_life m (Cycles k) e);
   same_endpoint = λ m n e. absurd (no_life m (Until n) e);
   receives = λ j thread w m is a. absurd (on_thread (λ j thread. HasAct thread.body w (λ a. Receives a m) → ⊥) (no_act (λ a. Receives a m) (λ k. k) (λ k. k) w) j thread is a);
@@ -168,9 +169,9 @@ module _ (inputs : Inputs) where
   pub is_reread : IsReread counter inputs run
   is_reread = record {
     decides = on_thread (λ j thread. DecidesAgain inputs thread.body registers (λ p s. false) (λ p c. false)) (record {
-      decides = λ i q scope s u vs f l e t k. absurd (no_asks f t k);
-      latest = λ i q scope t u f c e k l n. absurd (no_asks f (stands again i q scope t u e).1 k);
-      never = λ q c n. refl;
+      decides = λ i q l b vs t f k. absurd (no_asks f t k);
+      latest = λ i q c l b f k m n. absurd (no_asks f (stands again i q b.scope b.begin b.term b.runs).1 k);
+      never = λ q c l n. refl;
     });
     reset = history.reset;
     written = λ j thread is i q. on_thread (λ j thread. (b : Begins inputs run j thread.body i q) (vs : List Act) → Stands [] thread.body vs b.term → (r : ℕ) (e : Expr) → Sets (head b.term) r → Uses (head b.term) e

@@ -14,7 +14,7 @@ use Rattle.core_term.specs.Acts.{OnPort, Sends, Sets}
 use Rattle.core_term.specs.Wires.{Exchange, WithinAll, InLife, IsKept}
 use Rattle.core_term.specs.History.{greatest, or_else}
 use Rattle.core_term.specs.Outputs.{none_in, alive, latest, exchange, valid_wire, ack_wire, data_wire, shown_data, kept, data_of, Offer, offered, driven, has, wires}
-use Rattle.core_term.specs.Rules.{IsAccepted}
+use Rattle.core_term.specs.Rules.{KeepsDemands}
 use Rattle.core_term.specs.Violations.{IsNth, HasNoViolations}
 use Rattle.core_term.specs.Log.{Begun, EndsIn, UsedIn}
 use Rattle.core_term.specs.Safe.{MadeBeforeRead, UsedWithinLife, RegisterUnchanged, SideUnchanged, OneEach, IsSafe}
@@ -40,7 +40,7 @@ none_is e u (suc n) k = and_both (not (e u)) (none_in e (u + 1) n) (go (e u) ref
     go false f = refl
     go true f = absurd (k u (omega arith) (omega arith) f)
 
-module _ (p : Process) (process : IsProcess p) (accepted : IsAccepted p) (inputs : Inputs) (registers : ℕ → ℕ → ℕ) where
+module _ (p : Process) (process : IsProcess p) (accepted : KeepsDemands p) (inputs : Inputs) (registers : ℕ → ℕ → ℕ) where
   is_exchange : (m t : ℕ) → t < inputs.count → exchange p inputs registers m t ≡ true → Exchange (wires p inputs registers) m t
   is_exchange m t l k = (l, and_first (valid_wire p inputs registers m t) (ack_wire p inputs registers m t) k, and_second (valid_wire p inputs registers m t) (ack_wire p inputs registers m t) k)
 
@@ -195,5 +195,5 @@ module _ (p : Process) (process : IsProcess p) (accepted : IsAccepted p) (inputs
   }
 
 -- where the list of violations of a file is empty, each demand of each of its processes holds
-pub no_violations : (file : List Process) → HasNoViolations file → (i : ℕ) (p : Process) → IsNth file i p → IsAccepted p
+pub no_violations : (file : List Process) → HasNoViolations file → (i : ℕ) (p : Process) → IsNth file i p → KeepsDemands p
 no_violations file v i p nth j thread is rule first second claim d = elim (v.whole i j p thread nth is rule first second claim d) [ inl k ↦ k | inr k ↦ elim k [ ] ]

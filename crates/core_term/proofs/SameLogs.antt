@@ -12,7 +12,7 @@ use Rattle.core_term.specs.Process.{LifeEnd, Port, Register, Process, nth_port, 
 use Rattle.core_term.specs.Wires.{Wires}
 use Rattle.core_term.specs.Outputs.{wires, latest, data_wire}
 use Rattle.core_term.specs.History.{IsHistory}
-use Rattle.core_term.specs.Rules.{IsAccepted}
+use Rattle.core_term.specs.Rules.{KeepsDemands}
 use Rattle.core_term.specs.Reread.{Reread, IsReread}
 use Rattle.core_term.specs.Agreement.{AgreesAt}
 use Rattle.core_term.specs.Breach.{PromisesKept, IsFirstBreach}
@@ -72,7 +72,7 @@ module _ (p : Process) (wires other : Wires) (registers registers' : ℕ → ℕ
   pub line_same : log_line p wires registers t ≡ log_line p other registers' t
   line_same = rw (ports_same p.ports 0 (λ k. let e : 0 + k ≡ k = omega arith in ap (nth_port p.ports) e), registers_same p.registers 0) refl
 
-module _ (p : Process) (process : IsProcess p) (accepted : IsAccepted p) (inputs : Inputs) (registers : ℕ → ℕ → ℕ) (history : IsHistory p inputs registers) (run : Reread) (again : IsReread p inputs run) where
+module _ (p : Process) (process : IsProcess p) (accepted : KeepsDemands p) (inputs : Inputs) (registers : ℕ → ℕ → ℕ) (history : IsHistory p inputs registers) (run : Reread) (again : IsReread p inputs run) where
   abbrev KeptTo : ℕ → Type 0
   KeptTo n = (t : ℕ) → t < n → PromisesKept p (wires p inputs registers) t
 

@@ -11,21 +11,21 @@ use Rattle.core_term.specs.Outputs.{none_in, alive, latest}
 use Rattle.core_term.specs.Agreement.{Shows}
 use Rattle.core_term.specs.LogText.{exchanged, lives, is_shown}
 
-first_true : (a b : Bool) → (a && b) ≡ true → a ≡ true
+pub first_true : (a b : Bool) → (a && b) ≡ true → a ≡ true
 first_true true b k = refl
 first_true false b k = k
 
-second_true : (a b : Bool) → (a && b) ≡ true → b ≡ true
+pub second_true : (a b : Bool) → (a && b) ≡ true → b ≡ true
 second_true true b k = k
 second_true false b k = absurd cc
 
-both_true : (a b : Bool) → a ≡ true → b ≡ true → (a && b) ≡ true
+pub both_true : (a b : Bool) → a ≡ true → b ≡ true → (a && b) ≡ true
 both_true true b k l = l
 both_true false b k l = absurd cc
 
 -- The latest cycle.
 
-found_is : (e : ℕ → Bool) (n u : ℕ) → greatest (λ u. if e u then Some u else None) n ≡ Some u → (u < n) × (e u ≡ true)
+pub found_is : (e : ℕ → Bool) (n u : ℕ) → greatest (λ u. if e u then Some u else None) n ≡ Some u → (u < n) × (e u ≡ true)
 found_is e zero u k = absurd cc
 found_is e (suc n) u k = go (e n) refl k (found_is e n u)
   where
@@ -34,7 +34,7 @@ found_is e (suc n) u k = go (e n) refl k (found_is e n u)
     go false i j before = let z = before j in let l = z.0 in (omega arith, z.1)
 
 -- there is one where there is any, and it is no earlier
-find : (e : ℕ → Bool) (n start : ℕ) → start < n → e start ≡ true → (u : ℕ) × (greatest (λ u. if e u then Some u else None) n ≡ Some u) × (start ≤ u) × (u < n)
+pub find : (e : ℕ → Bool) (n start : ℕ) → start < n → e start ≡ true → (u : ℕ) × (greatest (λ u. if e u then Some u else None) n ≡ Some u) × (start ≤ u) × (u < n)
 find e zero start l k = absurd (omega arith)
 find e (suc n) start l k = go (e n) refl (find e n start)
   where
@@ -51,19 +51,19 @@ find e (suc n) start l k = go (e n) refl (find e n start)
             let c : true ≡ false = sym k ∙ (ap e s ∙ i) in absurd cc
 
 module _ (wires : Wires) where
-  exchange_is : (m t : ℕ) → exchanged wires m t ≡ true → Exchange wires m t
+  pub exchange_is : (m t : ℕ) → exchanged wires m t ≡ true → Exchange wires m t
   exchange_is m t k =
       let l : nat_lt t wires.count ≡ true = first_true _ _ k in
       let both = second_true (nat_lt t wires.count) _ k in
       (grind (arith, nat_tests), first_true (wires.valid m t) (wires.ack m t) both, second_true (wires.valid m t) (wires.ack m t) both)
 
-  is_exchange : (m t : ℕ) → Exchange wires m t → exchanged wires m t ≡ true
+  pub is_exchange : (m t : ℕ) → Exchange wires m t → exchanged wires m t ≡ true
   is_exchange m t k =
       let l = k.0 in
       let i : nat_lt t wires.count ≡ true = grind (arith, nat_tests) in
       both_true (nat_lt t wires.count) _ i (both_true (wires.valid m t) (wires.ack m t) k.1 k.2)
 
-  none_says : (e : ℕ → Bool) (u n c : ℕ) → none_in e u n ≡ true → u ≤ c → c < u + n → e c ≡ true → ⊥
+  pub none_says : (e : ℕ → Bool) (u n c : ℕ) → none_in e u n ≡ true → u ≤ c → c < u + n → e c ≡ true → ⊥
   none_says e u zero c k l m i = omega arith
   none_says e u (suc n) c k l m i = go (nat_lt u c) refl (λ low high. none_says e (u + 1) n c (second_true (not (e u)) _ k) low high i)
     where
@@ -76,7 +76,7 @@ module _ (wires : Wires) where
           let y : not (e u) ≡ true = first_true _ _ k in
           let w : not true ≡ true = sym (ap not x) ∙ y in absurd cc
 
-  says_none : (e : ℕ → Bool) (u n : ℕ) → ((c : ℕ) → u ≤ c → c < u + n → e c ≡ true → ⊥) → none_in e u n ≡ true
+  pub says_none : (e : ℕ → Bool) (u n : ℕ) → ((c : ℕ) → u ≤ c → c < u + n → e c ≡ true → ⊥) → none_in e u n ≡ true
   says_none e u zero k = refl
   says_none e u (suc n) k = both_true (not (e u)) _ (go (e u) refl) (says_none e (u + 1) n (λ c l m i. k c (omega arith) (omega arith) i))
     where
@@ -84,7 +84,7 @@ module _ (wires : Wires) where
       go true i = absurd (k u (omega arith) (omega arith) i)
       go false i = refl
 
-  alive_within : (life : List LifeEnd) (u t : ℕ) → u ≤ t → alive (exchanged wires) life u t ≡ true → WithinAll wires u t life
+  pub alive_within : (life : List LifeEnd) (u t : ℕ) → u ≤ t → alive (exchanged wires) life u t ≡ true → WithinAll wires u t life
   alive_within [] u t l k = tt
   alive_within (Cycles n ∷ more) u t l k = let z : nat_lt t (u + n) ≡ true = first_true _ _ k in (grind (arith, nat_tests), alive_within more u t l (second_true (nat_lt t (u + n)) _ k))
   alive_within (Until m ∷ more) u t l k = (
@@ -93,7 +93,7 @@ module _ (wires : Wires) where
   )
 
   -- also of a later exchange
-  within_alive : (life : List LifeEnd) (start u t : ℕ) → start ≤ u → u ≤ t → WithinAll wires start t life → alive (exchanged wires) life u t ≡ true
+  pub within_alive : (life : List LifeEnd) (start u t : ℕ) → start ≤ u → u ≤ t → WithinAll wires start t life → alive (exchanged wires) life u t ≡ true
   within_alive [] start u t l m k = refl
   within_alive (Cycles n ∷ more) start u t l m k =
       let c : t < start + n = k.0 in

@@ -5,33 +5,55 @@
 use Rattle.std.proofs.Common.{ℕ, ◌⊎◌, inl, inr, refl}
 use Rattle.order_rules.proofs.Exact.{complete, sound}
 use Rattle.order_rules.proofs.LastExact.{complete_last, sound_last}
+use Rattle.order_rules.specs.Lag.{Lag, Tells}
 use Rattle.order_rules.specs.Entry.{IsEarlier}
 use Rattle.order_rules.specs.LastEntry.{IsListed}
+use Rattle.order_rules.specs.Standing.{IsPoint}
 use Rattle.core_term.specs.Term.{Term}
-use Rattle.core_term.specs.Order.{Point, HasForm, Exclusive}
+use Rattle.core_term.specs.Order.{Point, HasForm, Exclusive, Precedes}
 use Rattle.core_term.specs.Process.{Process, life_of}
-use Rattle.core_term.specs.Lives.{HasEnding}
+use Rattle.core_term.specs.Lives.{HasEnding, LastPrecedes}
 use Rattle.core_term.specs.Rules.{Claim, Order, Last, Either, Both, Holds, end_of}
-use Rattle.core_term.specs.Graph.{Graph, IsGraphOf, IsOfText, Tables, Shows}
+use Rattle.core_term.specs.Graph.{Graph, IsGraphOf, NodesOrder, NodesLast, IsOfText, Tables, Shows}
 use Rattle.order_rules.proofs.Table.{lag, closed, decide}
 use Rattle.order_rules.proofs.LastTable.{last_lag, last_closed}
 use Rattle.order_rules.proofs.Transfer.{to_nodes, from_nodes}
 use Rattle.order_rules.proofs.LastTransfer.{last_to_nodes, last_from_nodes}
 
+module _ (p : Process) (body : Term) (g : Graph) (graph : IsGraphOf p body g) where
+  -- what tells a judgement of the nodes of two points tells that of the points
+  pub order_told : (a b : Point) → IsPoint Point (HasForm body) a → IsPoint Point (HasForm body) b
+      → (entry : Lag) → Tells entry (NodesOrder g (g.node a) (g.node b)) → Tells entry (λ d. Precedes body a d b)
+  order_told a b of_a of_b entry tells d = (
+    (λ k. (tells d).0 (to_nodes Point ℕ (HasForm body) _ (Exclusive body) _ g.node graph.stands of_a of_b k)),
+    λ k. from_nodes Point ℕ (HasForm body) _ (Exclusive body) _ g.node graph.stands ((tells d).1 k) a b of_a of_b refl refl,
+  )
+
+  pub last_told : (send m : ℕ) (b : Point) → IsPoint Point (HasForm body) (end_of send) → IsPoint Point (HasForm body) b
+      → (entry : Lag) → Tells entry (NodesLast g send m (g.node b)) → Tells entry (λ d. LastPrecedes body (life_of p m) send d b)
+  last_told send m b of_send of_b entry tells d = (
+    (λ k.
+        (tells d).0
+        (last_to_nodes Point ℕ (HasForm body) _ (Exclusive body) _ g.node graph.stands (HasEnding body (life_of p m))
+        (IsListed (g.ends m)) (graph.ends_stand m) (end_of send) of_send of_b k)),
+    λ k.
+        last_from_nodes Point ℕ (HasForm body) _ (Exclusive body) _ g.node graph.stands (HasEnding body (life_of p m))
+        (IsListed (g.ends m)) (graph.ends_stand m) (end_of send) of_send ((tells d).1 k) b of_b refl,
+  )
+
 module _ (p : Process) (body : Term) (g : Graph) (graph : IsGraphOf p body g) (t : Tables g) where
   pub shown : (c : Claim) → IsOfText body c → Holds p body c → Shows g t c
-  shown (Order a d b) o k = (t.lag_is (g.node a) (g.node b) d).0 (to_nodes Point ℕ (HasForm body) _ (Exclusive body) _ g.node graph.stands o.0 o.1 k)
+  shown (Order a d b) o k = (order_told p body g graph a b o.0 o.1 (t.lag (g.node a) (g.node b)) (t.lag_is (g.node a) (g.node b)) d).0 k
   shown (Last s m d b) o k =
-      (t.end_lag_is s m (g.node b) d).0
-      (last_to_nodes Point ℕ (HasForm body) _ (Exclusive body) _ g.node graph.stands (HasEnding body (life_of p m)) (IsListed (g.ends m)) (graph.ends_stand m) (end_of s) o.0 o.1 k)
+      (last_told p body g graph s m b o.0 o.1 (t.end_lag s m (g.node b)) (t.end_lag_is s m (g.node b)) d).0 k
   shown (Either a b) o (inl k) = inl (shown a o.0 k)
   shown (Either a b) o (inr k) = inr (shown b o.1 k)
   shown (Both a b) o k = (shown a o.0 k.0, shown b o.1 k.1)
 
   pub told : (c : Claim) → IsOfText body c → Shows g t c → Holds p body c
-  told (Order a d b) o k = from_nodes Point ℕ (HasForm body) _ (Exclusive body) _ g.node graph.stands ((t.lag_is (g.node a) (g.node b) d).1 k) a b o.0 o.1 refl refl
+  told (Order a d b) o k = (order_told p body g graph a b o.0 o.1 (t.lag (g.node a) (g.node b)) (t.lag_is (g.node a) (g.node b)) d).1 k
   told (Last s m d b) o k =
-      last_from_nodes Point ℕ (HasForm body) _ (Exclusive body) _ g.node graph.stands (HasEnding body (life_of p m)) (IsListed (g.ends m)) (graph.ends_stand m) (end_of s) o.0 ((t.end_lag_is s m (g.node b) d).1 k) b o.1 refl
+      (last_told p body g graph s m b o.0 o.1 (t.end_lag s m (g.node b)) (t.end_lag_is s m (g.node b)) d).1 k
   told (Either a b) o (inl k) = inl (told a o.0 k)
   told (Either a b) o (inr k) = inr (told b o.1 k)
   told (Both a b) o k = (told a o.0 k.0, told b o.1 k.1)

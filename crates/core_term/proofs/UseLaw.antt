@@ -132,7 +132,7 @@ module _ (p : Process) (process : IsProcess p) (inputs : Inputs) (registers : �
         → (occurrence inputs (sees registers) (run_of inputs (sees registers) body i) (End q) ≡ Gone) ⊎ ((e l : ℕ) × (occurrence inputs (sees registers) (run_of inputs (sees registers) body i) (End q) ≡ occurs.At e) × Over m e l × ((pos l +ℤ d) ≤ℤ pos t))
     last_law m i k q d t b r o l less =
         last.last_law Point (HasForm body) (Exclusive body) inputs.count (Left inputs (sees registers) body numbered i k) (Occurs inputs (sees registers) body numbered i k) (IsLost inputs (sees registers) body numbered i k) (timed inputs (sees registers) body numbered i k)
-        (HasEnding body (life_of p m)) (Over m) (over_within m) (over_at m i k) (point false (End q)) (inl refl) r t o l less
+        (HasEnding body (life_of p m)) (Over m) (λ e. let z = process.lasts m 0 e in omega arith) (over_within m) (over_at m i k) (point false (End q)) (inl refl) r t o l less
 
     -- the use of a send that began in turn i is over
     pub send_over : (m i k q : ℕ) (d : ℤ) (t : ℕ) (late : Bool) (spot : Spot) → (b : Runs_at i q) → LastPrecedes body (life_of p m) q d (point late spot) → Occurs inputs (sees registers) body numbered i k (point late spot) t → t < inputs.count → pos t <ℤ (pos inputs.count +ℤ d)

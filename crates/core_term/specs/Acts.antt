@@ -1,7 +1,8 @@
--- What an act does, told from its text: the port it is on, the register it sets, the variables it reads, the value it uses.
-use Rattle.std.specs.Prelude.{ℕ, ◌≡◌, List, []}
+-- What an act does, told from its text: the port it is on, the register it sets, the variables it reads, the value it
+-- uses.
+use Rattle.std.specs.Prelude.{ℕ, ◌≡◌, ◌<◌, List, []}
 use Rattle.core_term.specs.Term.{Expr, Term, Act, Set, Send, Recv, If, When, Pure, site, head}
-use Rattle.core_term.specs.Numbering.{Mentions}
+use Rattle.core_term.specs.Numbering.{Mentions, Numbered, size}
 use Rattle.core_term.specs.Stands.{Stands}
 
 abbrev pub OnPort : Act → ℕ → Type 0
@@ -55,3 +56,14 @@ ActOn body w m = HasAct body w (λ a. OnPort a m)
 -- the site w sets the register r
 abbrev pub SetAt : Term → ℕ → ℕ → Type 0
 SetAt body w r = HasAct body w (λ a. Sets a r)
+
+-- the site w is that of an act of a body, which heads a term
+pub record IsAt (body : Term) (w : ℕ) : Type 0 where
+  pub scope : List Act
+  pub term : Term
+  pub stands : Stands [] body scope term
+  pub is_site : site (head term) ≡ w
+
+-- Each number below the count of its acts is the site of an act of a numbered body.
+abbrev pub EachSiteHasAnAct : Type 0
+EachSiteHasAnAct = (body : Term) → Numbered [] 0 body → (w : ℕ) → w < size body → IsAt body w

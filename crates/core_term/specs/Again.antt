@@ -2,7 +2,8 @@
 use Rattle.std.specs.Prelude.{ℕ, ◌==◌, if◌then◌else◌, Bool, true, false, List, [], ◌∷◌}
 use Rattle.anvil_bits.specs.Operators.{not_of, slice_of, choice_of}
 use Rattle.core_term.specs.Operators.{operate}
-use Rattle.core_term.specs.Term.{Expr, Lit, Var, Reg, Not, Bin, Slice, Choose, Term, One, Then, Both, Act, Recv, If, Block, Wait, Pure, site}
+use Rattle.core_term.specs.Term.{Expr, Lit, Var, Reg, Not, Bin, Slice, Choose, Term, One, Then, Both, Act, Recv, If}
+use Rattle.core_term.specs.Term.{Block, Wait, Pure, site}
 
 -- what can be read in a cycle: the data of each port, each register, and the side of the latest decision of each `if`
 pub record Sight : Type 0 where
@@ -23,8 +24,8 @@ number sight now (Choose c a b) = choice_of (number sight now c) (number sight n
 abbrev pub put : (ℕ → ℕ) → ℕ → ℕ → ℕ → ℕ
 put now p n y = if y == p then n else now y
 
--- of the value of a term: a `recv` has the data of its port, an `if` the side of its latest decision, a wait its variable, and a
--- chain its last part
+-- of the value of a term: a `recv` has the data of its port, an `if` the side of its latest decision, a wait its
+-- variable, and a chain its last part
 abbrev mutual
   pub again : Sight → (ℕ → ℕ) → Term → ℕ
   again sight now (One a) = act_again sight now a

@@ -1,5 +1,5 @@
--- When two runs of a process agree in a cycle: `valid` and `ack` of every port, all registers, and the data of each sent port
--- that is offered or in the life of an exchange.
+-- When two runs of a process agree in a cycle: `valid` and `ack` of every port, all registers, and the data of each
+-- sent port that is offered or in the life of an exchange.
 use Rattle.std.specs.Prelude.{ℕ, ◌≡◌, ◌⊎◌, true, false, List}
 use Rattle.core_term.specs.Process.{LifeEnd, Process, life_of, is_received}
 use Rattle.core_term.specs.Wires.{Wires, Exchange, InLife}
@@ -12,4 +12,5 @@ pub record AgreesAt (p : Process) (wires other : Wires) (registers registers' : 
   pub valid : (m : ℕ) → wires.valid m t ≡ other.valid m t
   pub ack : (m : ℕ) → wires.ack m t ≡ other.ack m t
   pub registers_agree : (r : ℕ) → registers t r ≡ registers' t r
-  pub data_at : (m : ℕ) → is_received p m ≡ false → Shows wires (life_of p m) m t → wires.data_at m t ≡ other.data_at m t
+  pub data_at : (m : ℕ) → is_received p m ≡ false → Shows wires (life_of p m) m t
+      → wires.data_at m t ≡ other.data_at m t

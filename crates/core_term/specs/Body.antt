@@ -1,5 +1,5 @@
--- The body of a thread, as the code keeps it: numbered, tail-stepped, of at most 512 acts, with no `cycle` of 0, and with
--- places that never fall in tree order.
+-- The body of a thread, as the code keeps it: numbered, tail-stepped, of at most 512 acts, with no `cycle` of 0, and
+-- with places that never fall in tree order.
 --
 -- The first parts speak of the plain term, and hold for all widths, since none of them depends on a width.
 use Rattle.std.specs.Prelude.{ℕ, ◌≤◌, List, [], ◌∷◌, length}

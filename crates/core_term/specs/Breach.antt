@@ -1,5 +1,5 @@
--- The first broken promise of a run, on the wires alone: the first cycle in which a received port's promise fails, and the first
--- such port there.
+-- The first broken promise of a run, on the wires alone: the first cycle in which a received port's promise fails, and
+-- the first such port there.
 use Rattle.std.specs.Prelude.{ℕ, ◌≡◌, ◌<◌, true}
 use Rattle.core_term.specs.Process.{Process, life_of, is_received}
 use Rattle.core_term.specs.Wires.{Wires, IsKept}

@@ -1,21 +1,24 @@
 -- When a term that begins in the cycle `start` ends, and with what value.
 --
--- This looks at the whole input list at once; code goes cycle by cycle with a state for each act. A term begins within the
--- list: that is asked where a chain goes on and where a turn begins, and every other begin is one of those.
-use Rattle.std.specs.Prelude.{ℕ, ◌+◌, ◌-◌, ◌==◌, if◌then◌else◌, Bool, true, false, [], ◌∷◌, nat_lt, zero, suc, max, Option, Some, None}
+-- This looks at the whole input list at once; code goes cycle by cycle with a state for each act. A term begins within
+-- the list: that is asked where a chain goes on and where a turn begins, and every other begin is one of those.
+use Rattle.std.specs.Prelude.{ℕ, ◌+◌, ◌-◌, ◌==◌, if◌then◌else◌, Bool, true, false, [], ◌∷◌, nat_lt, zero, suc, max}
+use Rattle.std.specs.Prelude.{Option, Some, None}
 use Rattle.core_term.specs.Inputs.{Inputs}
-use Rattle.core_term.specs.Term.{Expr, Term, One, Then, Both, Act, Cycle, Set, Send, Recv, If, When, Block, Wait, Pure, Nothing, site}
+use Rattle.core_term.specs.Term.{Expr, Term, One, Then, Both, Act, Cycle, Set, Send, Recv, If, When, Block, Wait, Pure}
+use Rattle.core_term.specs.Term.{Nothing, site}
 use Rattle.core_term.specs.Value.{Wire, Choice, Value, Outcome, Open, Done, nothing, value}
 
--- what a walk through a body sees: what the registers show, by cycle and register, and whether the `if` of a site that begins
--- in the cycle start decides for its first side. The source run and the re-reading run differ in this alone
+-- what a walk through a body sees: what the registers show, by cycle and register, and whether the `if` of a site that
+-- begins in the cycle start decides for its first side. The source run and the re-reading run differ in this alone
 pub record Sees : Type 0 where
   pub registers : (cycle register : ℕ) → ℕ
   pub decide : (site start : ℕ) → (ℕ → Outcome) → Expr → Bool
 
 -- as the source run has it: an `if` decides by the value of its condition
 abbrev pub sees : (ℕ → ℕ → ℕ) → Sees
-sees registers = record { registers = registers; decide = λ p start scope e. (value registers scope start e).number == 1 }
+sees registers =
+    record { registers = registers; decide = λ p start scope e. (value registers scope start e).number == 1 }
 
 -- the first of n cycles from start on in which a wire is 1
 abbrev pub first : (ℕ → Bool) → ℕ → ℕ → Option ℕ
@@ -56,16 +59,24 @@ after_end inputs (Done e v) go_on = if nat_lt e inputs.count then go_on e v else
 abbrev mutual
   pub ends : Inputs → Sees → (ℕ → Outcome) → ℕ → Term → Outcome
   ends inputs view scope start (One a) = act_ends inputs view scope start a
-  ends inputs view scope start (Then a t) = after_end inputs (act_ends inputs view scope start a) (λ e v. ends inputs view (bind scope (site a) (Done e v)) e t)
-  ends inputs view scope start (Both a t) = later (act_ends inputs view scope start a) (ends inputs view (bind scope (site a) (act_ends inputs view scope start a)) start t)
+  ends inputs view scope start (Then a t) =
+      after_end inputs (act_ends inputs view scope start a)
+      (λ e v. ends inputs view (bind scope (site a) (Done e v)) e t)
+  ends inputs view scope start (Both a t) =
+      later (act_ends inputs view scope start a)
+      (ends inputs view (bind scope (site a) (act_ends inputs view scope start a)) start t)
 
   pub act_ends : Inputs → Sees → (ℕ → Outcome) → ℕ → Act → Outcome
   act_ends inputs view scope start (Cycle p n) = Done (start + n) nothing
   act_ends inputs view scope start (Set p r e) = Done (start + 1) nothing
-  act_ends inputs view scope start (Send p m e) = found (first (inputs.ack m) start (inputs.count - start)) (λ u. nothing)
-  act_ends inputs view scope start (Recv p m) = found (first (inputs.valid m) start (inputs.count - start)) (λ u. record { number = inputs.data_at m u; atoms = Wire m u ∷ [] })
+  act_ends inputs view scope start (Send p m e) =
+      found (first (inputs.ack m) start (inputs.count - start)) (λ u. nothing)
+  act_ends inputs view scope start (Recv p m) =
+      found (first (inputs.valid m) start (inputs.count - start))
+      (λ u. record { number = inputs.data_at m u; atoms = Wire m u ∷ [] })
   act_ends inputs view scope start (If p e t u w) =
-      decided w p start (if view.decide p start scope e then ends inputs view scope start t else ends inputs view scope start u)
+      decided w p start
+      (if view.decide p start scope e then ends inputs view scope start t else ends inputs view scope start u)
   act_ends inputs view scope start (When p e t) =
       decided false p start (if view.decide p start scope e then ends inputs view scope start t else Done start nothing)
   act_ends inputs view scope start (Block p t) = ends inputs view scope start t

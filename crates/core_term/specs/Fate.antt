@@ -5,8 +5,8 @@ use Rattle.core_term.specs.Term.{Term, One, Then, Both, Act, If, When, Block, si
 use Rattle.core_term.specs.Value.{Value, Outcome, Open, Done}
 use Rattle.core_term.specs.Ends.{Sees, bind, act_ends}
 
--- Waits: it has not begun in the list. Lost: an `if` around it has decided for the other side. Runs: it has begun, with the
--- variables in scope and the rest of its term
+-- Waits: it has not begun in the list. Lost: an `if` around it has decided for the other side. Runs: it has begun, with
+-- the variables in scope and the rest of its term
 pub data Fate : Type 0 where
   Waits : Fate
   Lost : Fate
@@ -20,11 +20,13 @@ once inputs (Done e v) go_on = if nat_lt e inputs.count then go_on e v else Wait
 -- of the act of the site q in a term that begins in the cycle start
 abbrev mutual
   pub fate : Inputs → Sees → (ℕ → Outcome) → ℕ → Term → ℕ → Fate
-  fate inputs view scope start (One a) q = if q == site a then Runs scope start (One a) else inside inputs view scope start a q
+  fate inputs view scope start (One a) q =
+      if q == site a then Runs scope start (One a) else inside inputs view scope start a q
   fate inputs view scope start (Then a t) q =
       if nat_lt q (site (head t))
       then (if q == site a then Runs scope start (Then a t) else inside inputs view scope start a q)
-      else once inputs (act_ends inputs view scope start a) (λ e v. fate inputs view (bind scope (site a) (Done e v)) e t q)
+      else once inputs (act_ends inputs view scope start a)
+      (λ e v. fate inputs view (bind scope (site a) (Done e v)) e t q)
   fate inputs view scope start (Both a t) q =
       if nat_lt q (site (head t))
       then (if q == site a then Runs scope start (Both a t) else inside inputs view scope start a q)
@@ -35,6 +37,7 @@ abbrev mutual
       if nat_lt q (site (head u))
       then (if view.decide p start scope e then fate inputs view scope start t q else Lost)
       else (if view.decide p start scope e then Lost else fate inputs view scope start u q)
-  inside inputs view scope start (When p e t) q = if view.decide p start scope e then fate inputs view scope start t q else Lost
+  inside inputs view scope start (When p e t) q =
+      if view.decide p start scope e then fate inputs view scope start t q else Lost
   inside inputs view scope start (Block p t) q = fate inputs view scope start t q
   inside inputs view scope start a q = Waits

@@ -21,6 +21,8 @@ pub mod Points
 pub mod Order
 pub mod Lives
 pub mod Sources
+pub mod Atoms
+pub mod AtomTables
 pub mod Rules
 pub mod Violations
 pub mod Safe
@@ -33,6 +35,7 @@ pub mod Body
 pub mod ProcessView
 pub mod Sized
 pub mod Rows
+pub mod Fitting
 pub mod OneRun
 pub mod Breach
 pub mod LogText

@@ -1,9 +1,7 @@
 -- The limits that a core process keeps.
 use Rattle.std.specs.Prelude.{ℕ}
-
 -- the most bits of a number
-abbrev pub widest : ℕ
-widest = 64
+pub use Rattle.anvil_bits.specs.Number.{widest}
 
 -- the most cycles of a `cycle` and of a life that has a number
 abbrev pub longest_delay : ℕ
@@ -16,7 +14,7 @@ most_acts = 512
 abbrev pub most_nodes : ℕ
 most_nodes = 256
 
--- the most threads, registers and ports of a process, and processes of a file
+-- the most threads, registers and ports of a process
 abbrev pub most_threads : ℕ
 most_threads = 16
 
@@ -25,9 +23,6 @@ most_registers = 64
 
 abbrev pub most_ports : ℕ
 most_ports = 64
-
-abbrev pub most_processes : ℕ
-most_processes = 64
 
 -- the most ends of a life
 abbrev pub most_ends : ℕ

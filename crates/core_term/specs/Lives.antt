@@ -8,8 +8,8 @@ use Rattle.core_term.specs.Process.{LifeEnd, Cycles, Until}
 use Rattle.core_term.specs.Points.{End}
 use Rattle.core_term.specs.Order.{Point, point, HasForm, Exclusive}
 
--- how a life ends, as the text of the thread shows it: after its cycles, or at the end of an act on an ending port, in either
--- turn
+-- how a life ends, as the text of the thread shows it: after its cycles, or at the end of an act on an ending port, in
+-- either turn
 abbrev pub HasEnding : Term → List LifeEnd → Ending Point → Type 0
 HasEnding body life (Within n) = Has life (Cycles n)
 HasEnding body life (At b) = (m w : ℕ) × Has life (Until m) × ActOn body w m × (b.spot ≡ End w)

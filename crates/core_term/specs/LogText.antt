@@ -1,9 +1,11 @@
 -- The text of a log: one line for each cycle, ended by a line feed.
 --
--- A line has for each port `E.M=vVaAdD`, with the valid, the ack and the data of the cycle, then for each register `R=D`, all with
--- one space between. Numbers are decimal. The data of a sent port that is neither offered nor in the life of one of its exchanges
--- is `-`. It is a text of wires and registers, so it serves the source run and the run of a module.
-use Rattle.std.specs.Prelude.{ℕ, ◌+◌, ◌&&◌, ◌||◌, Bool, true, false, List, [], ◌∷◌, ◌++◌, nat_lt, codes, decimal, zero, suc, Option, Some, None}
+-- A line has for each port `E.M=vVaAdD`, with the valid, the ack and the data of the cycle, then for each register
+-- `R=D`, all with one space between. Numbers are decimal. The data of a sent port that is neither offered nor in the
+-- life of one of its exchanges is `-`. It is a text of wires and registers, so it serves the source run and the run of
+-- a module.
+use Rattle.std.specs.Prelude.{ℕ, ◌+◌, ◌&&◌, ◌||◌, Bool, true, false, List, [], ◌∷◌, ◌++◌, nat_lt, codes, decimal, zero}
+use Rattle.std.specs.Prelude.{suc, Option, Some, None}
 use Rattle.core_term.specs.Process.{LifeEnd, Port, Register, Process}
 use Rattle.core_term.specs.Wires.{Wires}
 use Rattle.core_term.specs.Outputs.{alive, latest}
@@ -31,7 +33,14 @@ data_text false false n = codes "-"
 
 abbrev pub port_text : Wires → ℕ → ℕ → Port → List ℕ
 port_text wires t m port =
-    port.endpoint ++ (codes "." ++ (port.message ++ (codes "=v" ++ (bit_text (wires.valid m t) ++ (codes "a" ++ (bit_text (wires.ack m t) ++ (codes "d" ++ data_text port.received (is_shown wires port.life m t) (wires.data_at m t))))))))
+    port.endpoint
+    ++ (codes "."
+    ++ (port.message
+    ++ (codes "=v"
+    ++ (bit_text (wires.valid m t)
+    ++ (codes "a"
+    ++ (bit_text (wires.ack m t)
+    ++ (codes "d" ++ data_text port.received (is_shown wires port.life m t) (wires.data_at m t))))))))
 
 abbrev pub register_text : (ℕ → ℕ → ℕ) → ℕ → ℕ → Register → List ℕ
 register_text registers t r register = register.name ++ (codes "=" ++ decimal (registers t r))
@@ -43,7 +52,8 @@ port_texts wires t m (port ∷ ports) = port_text wires t m port ∷ port_texts 
 
 abbrev pub register_texts : (ℕ → ℕ → ℕ) → ℕ → ℕ → List Register → List (List ℕ)
 register_texts history t r [] = []
-register_texts history t r (register ∷ registers) = register_text history t r register ∷ register_texts history t (r + 1) registers
+register_texts history t r (register ∷ registers) =
+    register_text history t r register ∷ register_texts history t (r + 1) registers
 
 -- with one space between
 abbrev pub spaced : List (List ℕ) → List ℕ
@@ -52,7 +62,8 @@ spaced (text ∷ []) = text
 spaced (text ∷ next ∷ rest) = text ++ (codes " " ++ spaced (next ∷ rest))
 
 abbrev pub log_line : Process → Wires → (ℕ → ℕ → ℕ) → ℕ → List ℕ
-log_line p wires registers t = spaced (port_texts wires t 0 p.ports ++ register_texts registers t 0 p.registers) ++ codes "\n"
+log_line p wires registers t =
+    spaced (port_texts wires t 0 p.ports ++ register_texts registers t 0 p.registers) ++ codes "\n"
 
 -- the lines of the n cycles from t on
 abbrev pub log_text : Process → Wires → (ℕ → ℕ → ℕ) → ℕ → ℕ → List ℕ

@@ -1,5 +1,5 @@
 -- Names of a process: which are good, and that none stands twice. A good name can stand in an emitted module.
-use Rattle.std.specs.Prelude.{Bool, true, false, not, ◌&&◌, List, [], ◌∷◌}
+use Rattle.std.specs.Prelude.{Bool, true, not, ◌&&◌, List, [], ◌∷◌}
 use Rattle.std.specs.List.{list_any}
 pub use Rattle.anvil_lexer.specs.GoodName.{is_good_name}
 

@@ -1,9 +1,10 @@
--- Numbered bodies: the acts have the sites 0, 1, 2 and so on in tree order, each act before the acts inside it, and each
--- variable is the site of an act in scope.
+-- Numbered bodies: the acts have the sites 0, 1, 2 and so on in tree order, each act before the acts inside it, and
+-- each variable is the site of an act in scope.
 --
 -- The act of a chain is in scope in the rest of its chain, and so in all that stands inside that rest.
 use Rattle.std.specs.Prelude.{ℕ, ◌≡◌, ◌+◌, ◌⊎◌, List, [], ◌∷◌}
-use Rattle.core_term.specs.Term.{Expr, Lit, Var, Reg, Not, Bin, Slice, Choose, Term, One, Then, Both, Act, Set, Send, If, When, Block, Wait, Pure, site}
+use Rattle.core_term.specs.Term.{Expr, Lit, Var, Reg, Not, Bin, Slice, Choose, Term, One, Then, Both, Act, Set, Send}
+use Rattle.core_term.specs.Term.{If, When, Block, Wait, Pure, site}
 
 -- how many acts a term has
 abbrev mutual
@@ -44,7 +45,8 @@ abbrev mutual
   Numbered scope low (Both a t) = NumberedAct scope low a × Numbered (a ∷ scope) (low + act_size a) t
 
   pub NumberedAct : List Act → ℕ → Act → Type 0
-  NumberedAct scope low (If p e t u w) = (p ≡ low) × Numbered scope (low + 1) t × Numbered scope (low + (1 + size t)) u × InScope scope e
+  NumberedAct scope low (If p e t u w) =
+      (p ≡ low) × Numbered scope (low + 1) t × Numbered scope (low + (1 + size t)) u × InScope scope e
   NumberedAct scope low (When p e t) = (p ≡ low) × Numbered scope (low + 1) t × InScope scope e
   NumberedAct scope low (Block p t) = (p ≡ low) × Numbered scope (low + 1) t
   NumberedAct scope low (Wait p y) = (p ≡ low) × OneOf scope y

@@ -1,8 +1,9 @@
 -- When the points of a turn occur, and the local rule of each form.
 --
--- This speaks of one turn: what became of each of its acts tells at which cycle each point occurs, that it is lost since an
--- `if` around it has decided for the other side, or that it may still come. The local rule of a point goes both ways: from a
--- point that occurs to those that its form names, and from those to it, where they come within the list.
+-- This speaks of one turn: what became of each of its acts tells at which cycle each point occurs, that it is lost
+-- since an `if` around it has decided for the other side, or that it may still come. The local rule of a point goes
+-- both ways: from a point that occurs to those that its form names, and from those to it, where they come within the
+-- list.
 use Rattle.std.specs.Prelude.{ℕ, ◌≡◌, ◌+◌, ◌<◌, ◌≤◌, ◌⊎◌, max, if◌then◌else◌, List, [], ◌∷◌}
 use Rattle.order_rules.specs.Form.{Form, Start, Same, After, Sync, Join, Side, Merge}
 use Rattle.core_term.specs.Inputs.{Inputs}

@@ -24,13 +24,20 @@ pub record SameWires (wires other : Wires) (t : ℕ) : Type 0 where
   pub ack : (m : ℕ) → wires.ack m t ≡ other.ack m t
   pub data_at : (m : ℕ) → wires.data_at m t ≡ other.data_at m t
 
--- What is found cycle by cycle is a history of the registers, and any other is the same in each cycle of the list and the one
--- after it.
+-- What is found cycle by cycle is a history of the registers, and any other is the same in each cycle of the list and
+-- the one after it.
 abbrev pub EachHasOneRun : Type 0
-EachHasOneRun = (p : Process) (inputs : Inputs) → IsHistory p inputs (history p inputs) × ((other : ℕ → ℕ → ℕ) → IsHistory p inputs other → (t : ℕ) → t ≤ inputs.count → SameRegisters (history p inputs) other t)
+EachHasOneRun =
+    (p : Process) (inputs : Inputs)
+    → IsHistory p inputs (history p inputs)
+    × ((other : ℕ → ℕ → ℕ) → IsHistory p inputs other → (t : ℕ) → t ≤ inputs.count
+    → SameRegisters (history p inputs) other t)
 
--- Where two input lists have the same rows before the cycle n, the runs on them have the same wires before n, and the same
--- registers up to n.
+-- Where two input lists have the same rows before the cycle n, the runs on them have the same wires before n, and the
+-- same registers up to n.
 abbrev pub RunsAgreeWhileRowsDo : Type 0
-RunsAgreeWhileRowsDo = (p : Process) (inputs other : Inputs) (registers registers' : ℕ → ℕ → ℕ) → IsHistory p inputs registers → IsHistory p other registers' → (n : ℕ) → SameRows n inputs other
-    → ((t : ℕ) → t ≤ n → SameRegisters registers registers' t) × ((t : ℕ) → t < n → SameWires (wires p inputs registers) (wires p other registers') t)
+RunsAgreeWhileRowsDo =
+    (p : Process) (inputs other : Inputs) (registers registers' : ℕ → ℕ → ℕ) → IsHistory p inputs registers
+    → IsHistory p other registers' → (n : ℕ) → SameRows n inputs other
+    → ((t : ℕ) → t ≤ n → SameRegisters registers registers' t)
+    × ((t : ℕ) → t < n → SameWires (wires p inputs registers) (wires p other registers') t)

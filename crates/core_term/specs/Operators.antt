@@ -1,8 +1,10 @@
 -- What an operator of two operands gives, as a number.
 use Rattle.std.specs.Prelude.{ℕ}
-use Rattle.anvil_bits.specs.Operators.{sum_of, difference_of, product_of, and_of, or_of, xor_of, equal_of, differs_of, less_of, at_most_of, shift_left_of, shift_right_of, concatenation_of}
+use Rattle.anvil_bits.specs.Operators.{sum_of, difference_of, product_of, and_of, or_of, xor_of, equal_of, differs_of}
+use Rattle.anvil_bits.specs.Operators.{less_of, at_most_of, shift_left_of, shift_right_of, concatenation_of}
 use Rattle.core_term.specs.declared.operators.BinOp.{BinOp}
-use Rattle.core_term.specs.declared.operators.BinOp.TheVariants.{Add, Sub, Mul, And, Or, Xor, Eq, Ne, Lt, Le, Gt, Ge, Shl, Shr, Cat}
+use Rattle.core_term.specs.declared.operators.BinOp.TheVariants.{Add, Sub, Mul, And, Or, Xor, Eq, Ne, Lt, Le, Gt, Ge}
+use Rattle.core_term.specs.declared.operators.BinOp.TheVariants.{Shl, Shr, Cat}
 
 -- `w` is the width of the result, `low_width` that of the second operand
 abbrev pub operate : BinOp → (w low_width x y : ℕ) → ℕ

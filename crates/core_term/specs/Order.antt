@@ -1,7 +1,8 @@
--- The points of two turns of a thread that follow each other, their forms, which of them exclude each other, and their order.
+-- The points of two turns of a thread that follow each other, their forms, which of them exclude each other, and their
+-- order.
 --
--- Points exclude each other where they lie in one turn on different sides of one `if`. A side is its first point and all
--- points inside; the end of the `if` is outside.
+-- Points exclude each other where they lie in one turn on different sides of one `if`. A side is its first point and
+-- all points inside; the end of the `if` is outside.
 use Rattle.std.specs.Prelude.{ℕ, ◌≡◌, ◌+◌, ◌<◌, ◌≤◌, ◌⊎◌, ℤ, Bool, true, false, List, [], ◌∷◌}
 use Rattle.order_rules.specs.Form.{Form, Start, Same, After, Sync, Join, Side, Merge}
 use Rattle.order_rules.specs.Before.{Before}
@@ -23,7 +24,8 @@ IsFormed (g ∷ gs) b f = (g ≡ (b is f)) ⊎ IsFormed gs b f
 
 -- the later turn begins where the earlier one ends
 abbrev pub Follows : Term → Point → Point → Type 0
-Follows body b c = (b.late ≡ true) × (b.spot ≡ TermBegin (site (head body))) × (c.late ≡ false) × (c.spot ≡ TermEnd (site (head body)))
+Follows body b c =
+    (b.late ≡ true) × (b.spot ≡ TermBegin (site (head body))) × (c.late ≡ false) × (c.spot ≡ TermEnd (site (head body)))
 
 abbrev pub HasForm : Term → Point → Form Point → Type 0
 HasForm body b Start = (b.late ≡ false) × (b.spot ≡ TermBegin (site (head body)))

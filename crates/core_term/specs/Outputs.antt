@@ -1,9 +1,11 @@
 -- What a process drives in each cycle of a run, and so the wires of the run.
 --
--- An act is offered from its begin to its end. The `ack` of a received port is 1 while one of its `recv` acts is offered, and
--- the `valid` of a sent port while one of its `send` acts is. The data of a sent port is the value of the offered act with the
--- least site; else, where the cycle is in the life of an exchange, the data of the latest exchange; else 0.
-use Rattle.std.specs.Prelude.{ℕ, ◌+◌, ◌-◌, ◌==◌, ◌&&◌, not, if◌then◌else◌, Bool, true, false, List, [], ◌∷◌, nat_lt, nat_le, zero, suc, Option, Some, None}
+-- An act is offered from its begin to its end. The `ack` of a received port is 1 while one of its `recv` acts is
+-- offered, and the `valid` of a sent port while one of its `send` acts is. The data of a sent port is the value of the
+-- offered act with the least site; else, where the cycle is in the life of an exchange, the data of the latest
+-- exchange; else 0.
+use Rattle.std.specs.Prelude.{ℕ, ◌+◌, ◌-◌, ◌==◌, ◌&&◌, not, if◌then◌else◌, Bool, true, false, List, [], ◌∷◌, nat_lt}
+use Rattle.std.specs.Prelude.{nat_le, zero, suc, Option, Some, None}
 use Rattle.core_term.specs.Inputs.{Inputs}
 use Rattle.core_term.specs.Term.{Act, Send, Recv, head}
 use Rattle.core_term.specs.Value.{Outcome, Open, Done, value}
@@ -40,13 +42,19 @@ abbrev pub offered_by : Inputs → (ℕ → ℕ → ℕ) → ℕ → ℕ → Fat
 offered_by inputs registers m t Waits = None
 offered_by inputs registers m t Lost = None
 offered_by inputs registers m t (Runs scope start u) =
-    if on_port m (head u) && pending t start (act_ends inputs (sees registers) scope start (head u)) then Some (record { scope = scope; begin = start; act = head u }) else None
+    if on_port m (head u) && pending t start (act_ends inputs (sees registers) scope start (head u))
+    then Some (record { scope = scope; begin = start; act = head u })
+    else None
 
 -- the act of the least site that is offered on the port m in cycle t; one thread at most has acts on it
 abbrev pub offered : Inputs → (ℕ → ℕ → ℕ) → List Thread → ℕ → ℕ → Option Offer
 offered inputs registers [] m t = None
 offered inputs registers (thread ∷ threads) m t =
-    or_else (least (λ q. greatest (λ i. offered_by inputs registers m t (run_of inputs (sees registers) thread.body i q)) (t + 1)) 0 thread.count) (offered inputs registers threads m t)
+    or_else
+    (least
+    (λ q. greatest (λ i. offered_by inputs registers m t (run_of inputs (sees registers) thread.body i q)) (t + 1))
+    0 thread.count)
+    (offered inputs registers threads m t)
 
 abbrev pub has : {A : Type 0} → Option A → Bool
 has None = false
@@ -92,15 +100,27 @@ latest exchanged t = greatest (λ u. if exchanged u then Some u else None) (t + 
 -- the data of the latest exchange, in its life
 abbrev pub kept : Process → Inputs → (ℕ → ℕ → ℕ) → ℕ → ℕ → Option ℕ → ℕ
 kept p inputs registers m t None = 0
-kept p inputs registers m t (Some u) = if alive (exchange p inputs registers) (life_of p m) u t then data_of registers (offered inputs registers p.threads m u) else 0
+kept p inputs registers m t (Some u) =
+    if alive (exchange p inputs registers) (life_of p m) u t
+    then data_of registers (offered inputs registers p.threads m u)
+    else 0
 
 abbrev pub shown_data : Process → Inputs → (ℕ → ℕ → ℕ) → ℕ → ℕ → Option Offer → ℕ
 shown_data p inputs registers m t (Some offer) = data_of registers (Some offer)
 shown_data p inputs registers m t None = kept p inputs registers m t (latest (exchange p inputs registers m) t)
 
 abbrev pub data_wire : Process → Inputs → (ℕ → ℕ → ℕ) → ℕ → ℕ → ℕ
-data_wire p inputs registers m t = if is_received p m then inputs.data_at m t else shown_data p inputs registers m t (offered inputs registers p.threads m t)
+data_wire p inputs registers m t =
+    if is_received p m
+    then inputs.data_at m t
+    else shown_data p inputs registers m t (offered inputs registers p.threads m t)
 
 -- the wires of a run
 abbrev pub wires : Process → Inputs → (ℕ → ℕ → ℕ) → Wires
-wires p inputs registers = record { count = inputs.count; valid = valid_wire p inputs registers; ack = ack_wire p inputs registers; data_at = data_wire p inputs registers }
+wires p inputs registers =
+    record {
+      count = inputs.count;
+      valid = valid_wire p inputs registers;
+      ack = ack_wire p inputs registers;
+      data_at = data_wire p inputs registers;
+    }

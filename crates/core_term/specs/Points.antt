@@ -3,7 +3,8 @@
 -- An act is named by its site, and a term by the site of the act that it begins with.
 use Rattle.std.specs.Prelude.{ℕ, List, [], ◌∷◌, ◌++◌}
 use Rattle.order_rules.specs.Form.{Form, Same, After, Sync, Join, Side, Merge}
-use Rattle.core_term.specs.Term.{Term, One, Then, Both, Act, Cycle, Set, Send, Recv, If, When, Block, Wait, Pure, Nothing, site, head}
+use Rattle.core_term.specs.Term.{Term, One, Then, Both, Act, Cycle, Set, Send, Recv, If, When, Block, Wait, Pure}
+use Rattle.core_term.specs.Term.{Nothing, site, head}
 
 -- NoSide: the side of an `if` that has no else
 pub data Spot : Type 0 where
@@ -44,7 +45,8 @@ abbrev mutual
   act_forms (When p e t) =
       (TermBegin (site (head t)) is Side (Begin p)) ∷ (NoSide p is Side (Begin p))
       ∷ (End p is Merge (TermEnd (site (head t))) (NoSide p)) ∷ forms t
-  act_forms (Block p t) = (TermBegin (site (head t)) is Same (Begin p)) ∷ (End p is Same (TermEnd (site (head t)))) ∷ forms t
+  act_forms (Block p t) =
+      (TermBegin (site (head t)) is Same (Begin p)) ∷ (End p is Same (TermEnd (site (head t)))) ∷ forms t
   act_forms (Wait p y) = (End p is Join (Begin p) (End y)) ∷ []
   act_forms (Pure p e) = (End p is Same (Begin p)) ∷ []
   act_forms (Nothing p) = (End p is Same (Begin p)) ∷ []

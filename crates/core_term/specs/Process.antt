@@ -3,7 +3,7 @@ use Rattle.std.specs.Prelude.{ℕ, ◌≡◌, ◌<◌, Bool, true, false, List, 
 use Rattle.core_term.specs.Lists.{Has}
 use Rattle.core_term.specs.Term.{Term}
 use Rattle.core_term.specs.Numbering.{size, Numbered}
-use Rattle.core_term.specs.Tail.{IsTail}
+use Rattle.core_term.specs.Tail.{IsTail, CyclesTakeTime}
 use Rattle.core_term.specs.Acts.{Receives, Sends, HasAct, ActOn, SetAt}
 
 -- one end of a life: so many cycles, or the next exchange of another port of the same endpoint
@@ -74,15 +74,23 @@ IsThread [] j thread = ⊥
 IsThread (first ∷ rest) zero thread = first ≡ thread
 IsThread (first ∷ rest) (suc j) thread = IsThread rest j thread
 
--- What stands of every process that was read: bodies that are numbered and take time, lives of at least a cycle that end on
--- the same endpoint, each act on the right side, and each endpoint and each register in the hands of one thread.
+-- What stands of every process that was read: bodies that are numbered and take time, also each `cycle` in them; lives
+-- of at least a cycle that end on the same endpoint; each act on the right side; and each endpoint and each register in
+-- the hands of one thread.
 pub record IsProcess (p : Process) : Type 0 where
   pub numbered : (j : ℕ) (thread : Thread) → IsThread p.threads j thread → Numbered [] 0 thread.body
   pub counted : (j : ℕ) (thread : Thread) → IsThread p.threads j thread → thread.count ≡ size thread.body
   pub takes_time : (j : ℕ) (thread : Thread) → IsThread p.threads j thread → IsTail thread.body
+  pub cycles : (j : ℕ) (thread : Thread) → IsThread p.threads j thread → CyclesTakeTime thread.body
   pub lasts : (m k : ℕ) → Has (life_of p m) (Cycles k) → 0 < k
   pub same_endpoint : (m n : ℕ) → Has (life_of p m) (Until n) → endpoint_of p n ≡ endpoint_of p m
-  pub receives : (j : ℕ) (thread : Thread) (w m : ℕ) → IsThread p.threads j thread → HasAct thread.body w (λ a. Receives a m) → is_received p m ≡ true
-  pub sends : (j : ℕ) (thread : Thread) (w m : ℕ) → IsThread p.threads j thread → HasAct thread.body w (λ a. Sends a m) → is_received p m ≡ false
-  pub one_talker : (i j : ℕ) (thread other : Thread) (w w' m m' : ℕ) → IsThread p.threads i thread → IsThread p.threads j other → ActOn thread.body w m → ActOn other.body w' m' → endpoint_of p m ≡ endpoint_of p m' → i ≡ j
-  pub one_setter : (i j : ℕ) (thread other : Thread) (w w' r : ℕ) → IsThread p.threads i thread → IsThread p.threads j other → SetAt thread.body w r → SetAt other.body w' r → i ≡ j
+  pub receives : (j : ℕ) (thread : Thread) (w m : ℕ) → IsThread p.threads j thread
+      → HasAct thread.body w (λ a. Receives a m) → is_received p m ≡ true
+  pub sends : (j : ℕ) (thread : Thread) (w m : ℕ) → IsThread p.threads j thread
+      → HasAct thread.body w (λ a. Sends a m) → is_received p m ≡ false
+  pub one_talker : (i j : ℕ) (thread other : Thread) (w w' m m' : ℕ)
+      → IsThread p.threads i thread → IsThread p.threads j other
+      → ActOn thread.body w m → ActOn other.body w' m' → endpoint_of p m ≡ endpoint_of p m' → i ≡ j
+  pub one_setter : (i j : ℕ) (thread other : Thread) (w w' r : ℕ)
+      → IsThread p.threads i thread → IsThread p.threads j other
+      → SetAt thread.body w r → SetAt other.body w' r → i ≡ j

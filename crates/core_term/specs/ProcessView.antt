@@ -15,14 +15,27 @@ end_of_life (life.Cycles k) = Cycles k
 end_of_life (life.Until m) = Until m
 
 abbrev pub port_of : CorePort → Port
-port_of port = record { endpoint = port.endpoint; message = port.message; received = port.received; width = port.width; life = end_of_life port.life ∷ [] }
+port_of port =
+    record {
+      endpoint = port.endpoint;
+      message = port.message;
+      received = port.received;
+      width = port.width;
+      life = end_of_life port.life ∷ [];
+    }
 
 abbrev pub register_of : CoreReg → Register
 register_of register = record { name = register.name; width = register.width; reset = register.reset.value }
 
 -- the widths of ports and registers; no variable is in scope
 abbrev pub widths_of : List Port → List Register → Widths
-widths_of ports registers = record { registers = λ r. (nth_register registers r).width; ports = λ m. (nth_port ports m).width; variables = λ y. 0 }
+widths_of ports registers =
+    record {
+      registers = λ r. (nth_register registers r).width;
+      ports = λ m.
+          (nth_port ports m).width;
+      variables = λ y. 0;
+    }
 
 abbrev pub thread_of : Widths → CoreTerm → Thread
 thread_of widths body = record { body = term_of widths body; count = size (term_of widths body) }

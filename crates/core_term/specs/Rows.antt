@@ -1,7 +1,8 @@
 -- Rows of inputs and of outputs, as the code keeps them, against input lists and runs.
 --
 -- A row has a cell for each port, in port order. The value of a cell is what the `data` wire of the port carries.
-use Rattle.std.specs.Prelude.{ℕ, ◌+◌, ◌==◌, ◌&&◌, Bool, true, false, not, List, [], ◌∷◌, length, zero, suc, Option, Some, None}
+use Rattle.std.specs.Prelude.{ℕ, ◌+◌, ◌^◌, ◌==◌, ◌&&◌, nat_lt, Bool, true, false, not, List, [], ◌∷◌, length, zero, suc}
+use Rattle.std.specs.Prelude.{Option, Some, None}
 use Rattle.anvil_bits.specs.Number.{Number}
 use Rattle.core_term.specs.declared.rows.InCell.{InCell}
 use Rattle.core_term.specs.declared.rows.InCell.TheVariants as incoming
@@ -14,9 +15,10 @@ use Rattle.core_term.specs.Wires.{Wires}
 
 -- Input rows.
 
--- of the port's direction and width
+-- of the port's direction and width, with data below 2 to that width
 abbrev pub cell_fits : Port → InCell → Bool
-cell_fits port (incoming.Received valid v) = port.received && (v.width == port.width)
+cell_fits port (incoming.Received valid v) =
+    port.received && ((v.width == port.width) && nat_lt v.value (2 ^ port.width))
 cell_fits port (incoming.Sent ack) = not port.received
 
 abbrev pub cells_fit : List Port → List InCell → Bool
@@ -84,7 +86,8 @@ cells_shown wires t m (port ∷ ports) = cell_shown wires t m port ∷ cells_sho
 -- what the registers from the number r on show in cycle t
 abbrev pub registers_shown : (ℕ → ℕ → ℕ) → ℕ → ℕ → List Register → List Number
 registers_shown history t r [] = []
-registers_shown history t r (register ∷ registers) = number_of register.width (history t r) ∷ registers_shown history t (r + 1) registers
+registers_shown history t r (register ∷ registers) =
+    number_of register.width (history t r) ∷ registers_shown history t (r + 1) registers
 
 -- a row of zeros
 abbrev pub zero_cell : Port → OutCell

@@ -7,4 +7,6 @@ use Rattle.core_term.specs.LogText.{is_shown}
 
 -- The test of the log text holds exactly where the port is offered or in the life of one of its exchanges.
 abbrev pub ShownTells : Type 0
-ShownTells = (wires : Wires) (life : List LifeEnd) (m t : ℕ) → (is_shown wires life m t ≡ true → Shows wires life m t) × (Shows wires life m t → is_shown wires life m t ≡ true)
+ShownTells =
+    (wires : Wires) (life : List LifeEnd) (m t : ℕ)
+    → (is_shown wires life m t ≡ true → Shows wires life m t) × (Shows wires life m t → is_shown wires life m t ≡ true)

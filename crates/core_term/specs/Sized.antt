@@ -1,16 +1,22 @@
--- What a core process keeps of its checks: it is sized and owned. Both are tests that compute, with a part for each point.
-use Rattle.std.specs.Prelude.{ℕ, ◌+◌, ◌^◌, ◌==◌, nat_lt, nat_le, Bool, true, false, not, ◌&&◌, ◌||◌, List, [], ◌∷◌, ◌++◌, length, bytes_eq, Option, Some, None}
+-- What a core process keeps of its checks: it is sized and owned. Both are tests that compute, with a part for each
+-- point.
+use Rattle.std.specs.Prelude.{ℕ, ◌+◌, ◌^◌, ◌==◌, nat_lt, nat_le, Bool, true, false, not, ◌&&◌, ◌||◌, List, [], ◌∷◌}
+use Rattle.std.specs.Prelude.{◌++◌, length, bytes_eq, Option, Some, None}
 use Rattle.std.specs.List.{list_all}
 use Rattle.core_term.specs.declared.operators.BinOp.{BinOp}
-use Rattle.core_term.specs.declared.operators.BinOp.TheVariants.{Add, Sub, Mul, And, Or, Xor, Eq, Ne, Lt, Le, Gt, Ge, Shl, Shr, Cat}
+use Rattle.core_term.specs.declared.operators.BinOp.TheVariants.{Add, Sub, Mul, And, Or, Xor, Eq, Ne, Lt, Le, Gt, Ge}
+use Rattle.core_term.specs.declared.operators.BinOp.TheVariants.{Shl, Shr, Cat}
 use Rattle.core_term.specs.declared.term.CoreTerm.{CoreTerm, One', Then', Both'}
 use Rattle.core_term.specs.declared.term.CoreKind.{CoreKind, If', Block', Held-CoreKind-If-2, None', Some'}
 use Rattle.core_term.specs.declared.process.CorePort.{CorePort}
 use Rattle.core_term.specs.declared.process.CoreReg.{CoreReg}
-use Rattle.core_term.specs.Limits.{widest, longest_delay, most_nodes, most_threads, most_registers, most_ports, most_ends}
+use Rattle.core_term.specs.Limits.{widest, longest_delay, most_nodes, most_threads, most_registers, most_ports}
+use Rattle.core_term.specs.Limits.{most_ends}
 use Rattle.core_term.specs.Names.{is_good_name, has_no_twice}
-use Rattle.core_term.specs.Term.{Expr, Lit, Var, Reg, Not, Bin, Slice, Choose, Term, One, Then, Both, Act, Cycle, Set, Send, Recv, If, When, Block, Wait, Pure, Nothing}
-use Rattle.core_term.specs.Process.{LifeEnd, Cycles, Until, Port, Thread, Process, nth_port, nth_register, is_received, endpoint_of}
+use Rattle.core_term.specs.Term.{Expr, Lit, Var, Reg, Not, Bin, Slice, Choose, Term, One, Then, Both, Act, Cycle, Set}
+use Rattle.core_term.specs.Term.{Send, Recv, If, When, Block, Wait, Pure, Nothing}
+use Rattle.core_term.specs.Process.{LifeEnd, Cycles, Until, Port, Thread, Process, nth_port, nth_register, is_received}
+use Rattle.core_term.specs.Process.{endpoint_of}
 use Rattle.core_term.specs.Widths.{Widths, expr_width, term_width}
 use Rattle.core_term.specs.View.{term_of, act_of, after_act}
 use Rattle.core_term.specs.ProcessView.{widths_of, process_of}
@@ -53,16 +59,21 @@ parts_fit count widths (Lit w n) = is_width w && nat_lt n (2 ^ w)
 parts_fit count widths (Var y) = nat_lt 0 (widths.variables y)
 parts_fit count widths (Reg r) = nat_lt r count
 parts_fit count widths (Not w e) = parts_fit count widths e
-parts_fit count widths (Bin o w v a b) = parts_fit count widths a && (parts_fit count widths b && operands_fit o (expr_width widths a) (expr_width widths b))
+parts_fit count widths (Bin o w v a b) =
+    parts_fit count widths a && (parts_fit count widths b && operands_fit o (expr_width widths a) (expr_width widths b))
 parts_fit count widths (Slice y high low) = nat_le low high && nat_lt high (widths.variables y)
 parts_fit count widths (Choose c a b) =
-    parts_fit count widths c && (parts_fit count widths a && (parts_fit count widths b && ((expr_width widths c == 1) && (expr_width widths a == expr_width widths b))))
+    parts_fit count widths c
+    && (parts_fit count widths a
+    && (parts_fit count widths b && ((expr_width widths c == 1) && (expr_width widths a == expr_width widths b))))
 
 -- of the width w
 abbrev pub expr_fits : Process → Widths → ℕ → Expr → Bool
-expr_fits p widths w e = parts_fit (length p.registers) widths e && ((expr_width widths e == w) && nat_le (nodes e) most_nodes)
+expr_fits p widths w e =
+    parts_fit (length p.registers) widths e && ((expr_width widths e == w) && nat_le (nodes e) most_nodes)
 
--- Acts: each number of a port or register is below its count, each act is on the right side of its port, and widths agree.
+-- Acts: each number of a port or register is below its count, each act is on the right side of its port, and widths
+-- agree.
 
 -- whether an `if` has a value, by the widths of its sides
 abbrev pub word_fits : Bool → ℕ → ℕ → Bool
@@ -77,11 +88,14 @@ abbrev mutual
 
   pub act_fits : Process → Widths → Act → Bool
   act_fits p widths (Cycle s n) = nat_le 1 n && nat_le n longest_delay
-  act_fits p widths (Set s r e) = nat_lt r (length p.registers) && expr_fits p widths (nth_register p.registers r).width e
-  act_fits p widths (Send s m e) = nat_lt m (length p.ports) && (not (is_received p m) && expr_fits p widths (nth_port p.ports m).width e)
+  act_fits p widths (Set s r e) =
+      nat_lt r (length p.registers) && expr_fits p widths (nth_register p.registers r).width e
+  act_fits p widths (Send s m e) =
+      nat_lt m (length p.ports) && (not (is_received p m) && expr_fits p widths (nth_port p.ports m).width e)
   act_fits p widths (Recv s m) = nat_lt m (length p.ports) && is_received p m
   act_fits p widths (If s e t u w) =
-      expr_fits p widths 1 e && (term_fits p widths t && (term_fits p widths u && word_fits w (term_width widths t) (term_width widths u)))
+      expr_fits p widths 1 e
+      && (term_fits p widths t && (term_fits p widths u && word_fits w (term_width widths t) (term_width widths u)))
   act_fits p widths (When s e t) = expr_fits p widths 1 e && term_fits p widths t
   act_fits p widths (Block s t) = term_fits p widths t
   act_fits p widths (Wait s y) = true
@@ -96,7 +110,8 @@ abbrev mutual
   words_fit widths (Both' s p k q t) = words_fit_in widths k && words_fit (after_act widths (act_of widths s k)) t
 
   pub words_fit_in : Widths → CoreKind → Bool
-  words_fit_in widths (If' e p t u w) = words_fit widths t && words_fit_else widths (term_width widths (term_of widths t)) w u
+  words_fit_in widths (If' e p t u w) =
+      words_fit widths t && words_fit_else widths (term_width widths (term_of widths t)) w u
   words_fit_in widths (Block' p t) = words_fit widths t
   words_fit_in widths k = true
 
@@ -106,8 +121,8 @@ abbrev mutual
   words_fit_else widths w None (Some' p t) = words_fit widths t
   words_fit_else widths w (Some n) (Some' p t) = (n == w) && words_fit widths t
 
--- Ports: a life has 1 to 8 ends, at most one of them a number; each other one is another port of the same endpoint, and no
--- port stands twice.
+-- Ports: a life has 1 to 8 ends, at most one of them a number; each other one is another port of the same endpoint, and
+-- no port stands twice.
 
 abbrev pub end_fits : Process → ℕ → LifeEnd → Bool
 end_fits p m (Cycles k) = nat_le 1 k && nat_le k longest_delay
@@ -121,7 +136,9 @@ is_same_end (Until m) (Cycles k) = false
 is_same_end (Until m) (Until n) = m == n
 
 abbrev pub life_fits : Process → ℕ → List LifeEnd → Bool
-life_fits p m life = nat_le 1 (length life) && (nat_le (length life) most_ends && (list_all (end_fits p m) life && has_no_twice is_same_end life))
+life_fits p m life =
+    nat_le 1 (length life)
+    && (nat_le (length life) most_ends && (list_all (end_fits p m) life && has_no_twice is_same_end life))
 
 -- the lives of the ports from the number m on
 abbrev pub lives_fit : Process → ℕ → List Port → Bool
@@ -137,7 +154,8 @@ is_same_port one other = bytes_eq one.endpoint other.endpoint && bytes_eq one.me
 -- Registers: each reset has the width of its register.
 
 abbrev pub register_fits : CoreReg → Bool
-register_fits register = is_width register.width && ((register.reset.width == register.width) && is_good_name register.name)
+register_fits register =
+    is_width register.width && ((register.reset.width == register.width) && is_good_name register.name)
 
 abbrev pub is_same_register : CoreReg → CoreReg → Bool
 is_same_register one other = bytes_eq one.name other.name
@@ -162,7 +180,9 @@ is_sized name ports registers threads =
     && (nat_le (length registers) most_registers
     && (list_all register_fits registers
     && (has_no_twice is_same_register registers
-    && list_all (words_fit (widths_of (process_of name ports registers threads).ports (process_of name ports registers threads).registers)) threads)))
+    && list_all
+    (words_fit (widths_of (process_of name ports registers threads).ports
+    (process_of name ports registers threads).registers)) threads)))
 
 -- the ports that a term names, and the registers that it sets
 abbrev mutual
@@ -207,4 +227,5 @@ each_apart p [] = true
 each_apart p (thread ∷ rest) = list_all (are_apart p thread) rest && each_apart p rest
 
 abbrev pub is_owned : List ℕ → List CorePort → List CoreReg → List CoreTerm → Bool
-is_owned name ports registers threads = each_apart (process_of name ports registers threads) (process_of name ports registers threads).threads
+is_owned name ports registers threads =
+    each_apart (process_of name ports registers threads) (process_of name ports registers threads).threads

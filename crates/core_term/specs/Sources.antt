@@ -1,6 +1,7 @@
 -- What the values of a thread may rest on, told from its text: the source of an atom without its cycle.
 use Rattle.std.specs.Prelude.{ℕ, ◌==◌, if◌then◌else◌, true, false, List, [], ◌∷◌, ◌++◌}
-use Rattle.core_term.specs.Term.{Expr, Lit, Var, Reg, Not, Bin, Slice, Choose, Term, One, Then, Both, Act, Recv, If, Block, Wait, Pure, site}
+use Rattle.core_term.specs.Term.{Expr, Lit, Var, Reg, Not, Bin, Slice, Choose, Term, One, Then, Both, Act, Recv, If}
+use Rattle.core_term.specs.Term.{Block, Wait, Pure, site}
 
 -- the data that a `recv` has, a register that an act reads, the side of an `if`
 pub data Source : Type 0 where

@@ -13,7 +13,9 @@ mutual
     after_both : {vs ws : List Act} {a : Act} {t u : Term} → Stands (a ∷ vs) t ws u → Stands vs (Both a t) ws u
 
   pub data StandsIn : List Act → Act → List Act → Term → Type 0 where
-    in_yes : {vs ws : List Act} {p : ℕ} {e : Expr} {t f u : Term} {w : Bool} → Stands vs t ws u → StandsIn vs (If p e t f w) ws u
-    in_no : {vs ws : List Act} {p : ℕ} {e : Expr} {t f u : Term} {w : Bool} → Stands vs f ws u → StandsIn vs (If p e t f w) ws u
+    in_yes : {vs ws : List Act} {p : ℕ} {e : Expr} {t f u : Term} {w : Bool} → Stands vs t ws u
+        → StandsIn vs (If p e t f w) ws u
+    in_no : {vs ws : List Act} {p : ℕ} {e : Expr} {t f u : Term} {w : Bool} → Stands vs f ws u
+        → StandsIn vs (If p e t f w) ws u
     in_when : {vs ws : List Act} {p : ℕ} {e : Expr} {t u : Term} → Stands vs t ws u → StandsIn vs (When p e t) ws u
     in_block : {vs ws : List Act} {p : ℕ} {t u : Term} → Stands vs t ws u → StandsIn vs (Block p t) ws u

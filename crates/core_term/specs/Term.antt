@@ -1,14 +1,14 @@
 -- A thread's body as plain data: terms, acts and expressions, after names stand for numbers. This is what every other
 -- definition speaks of; `View` reads it off the types of the code.
 --
--- A site is the number of an act in its thread. A variable has the number of the act that makes it. Registers and ports have
--- their numbers in the process.
+-- A site is the number of an act in its thread. A variable has the number of the act that makes it. Registers and ports
+-- have their numbers in the process.
 use Rattle.std.specs.Prelude.{ℕ, Bool}
 use Rattle.core_term.specs.declared.operators.BinOp.{BinOp}
 
--- Lit: a number of a width. Var: a variable. Reg: what a register shows. Not, with the width. Bin: an operator, with the
--- width of its result and that of its second operand. Slice: the bits of a variable from `high` down to `low`. Choose: the
--- second where the first is 1, else the third
+-- Lit: a number of a width. Var: a variable. Reg: what a register shows. Not, with the width. Bin: an operator, with
+-- the width of its result and that of its second operand. Slice: the bits of a variable from `high` down to `low`.
+-- Choose: the second where the first is 1, else the third
 pub data Expr : Type 0 where
   Lit : (width number : ℕ) → Expr
   Var : (variable : ℕ) → Expr

@@ -1,10 +1,10 @@
 -- The turns of a thread: turn 0 begins in cycle 0, and each later turn in the cycle in which the turn before ended.
-use Rattle.std.specs.Prelude.{ℕ, if◌then◌else◌, nat_lt, zero, suc, Option, Some, None}
+use Rattle.std.specs.Prelude.{ℕ, ◌≡◌, if◌then◌else◌, nat_lt, zero, suc, Option, Some, None}
 use Rattle.core_term.specs.Inputs.{Inputs}
 use Rattle.core_term.specs.Term.{Term}
 use Rattle.core_term.specs.Value.{Outcome, Open, Done}
 use Rattle.core_term.specs.Ends.{Sees, ends}
-use Rattle.core_term.specs.Fate.{Fate, Waits, fate}
+use Rattle.core_term.specs.Fate.{Fate, Waits, Runs, fate}
 
 -- of a body no variable is in scope
 abbrev pub no_variable : ℕ → Outcome
@@ -31,3 +31,10 @@ run_from inputs view body (Some start) q = fate inputs view no_variable start bo
 -- what becomes of the act of the site q in turn i
 abbrev pub run_of : Inputs → Sees → Term → ℕ → ℕ → Fate
 run_of inputs view body i = run_from inputs view body (begins inputs view body i)
+
+-- the act of a site has begun in a turn: when, with which variables in scope, and with which term it heads
+pub record HasBegun (inputs : Inputs) (view : Sees) (body : Term) (turn site : ℕ) : Type 0 where
+  pub scope : ℕ → Outcome
+  pub begin : ℕ
+  pub term : Term
+  pub runs : run_of inputs view body turn site ≡ Runs scope begin term

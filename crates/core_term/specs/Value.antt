@@ -28,20 +28,27 @@ abbrev pub read : Outcome → ℕ → Value
 read Open now = nothing
 read (Done e v) now = if nat_le e now then v else nothing
 
--- an expression that is read in the cycle now, with what the registers show, by cycle and register, and the variables in scope
+-- an expression that is read in the cycle now, with what the registers show, by cycle and register, and the variables
+-- in scope
 abbrev pub value : (ℕ → ℕ → ℕ) → (ℕ → Outcome) → ℕ → Expr → Value
 value registers scope now (Lit w n) = record { number = n; atoms = [] }
 value registers scope now (Var y) = read (scope y) now
 value registers scope now (Reg r) = record { number = registers now r; atoms = Register r now ∷ [] }
-value registers scope now (Not w e) = record { number = not_of w (value registers scope now e).number; atoms = (value registers scope now e).atoms }
+value registers scope now (Not w e) =
+    record { number = not_of w (value registers scope now e).number; atoms = (value registers scope now e).atoms }
 value registers scope now (Bin o w v a b) =
     record {
       number = operate o w v (value registers scope now a).number (value registers scope now b).number;
       atoms = (value registers scope now a).atoms ++ (value registers scope now b).atoms;
     }
-value registers scope now (Slice y high low) = record { number = slice_of high low (read (scope y) now).number; atoms = (read (scope y) now).atoms }
+value registers scope now (Slice y high low) =
+    record { number = slice_of high low (read (scope y) now).number; atoms = (read (scope y) now).atoms }
 value registers scope now (Choose c a b) =
     record {
-      number = choice_of (value registers scope now c).number (value registers scope now a).number (value registers scope now b).number;
-      atoms = (value registers scope now c).atoms ++ ((value registers scope now a).atoms ++ (value registers scope now b).atoms);
+      number =
+          choice_of (value registers scope now c).number (value registers scope now a).number
+          (value registers scope now b).number;
+      atoms =
+          (value registers scope now c).atoms ++
+          ((value registers scope now a).atoms ++ (value registers scope now b).atoms);
     }

@@ -1,12 +1,13 @@
 -- A core term of the code as the plain term that it stands for, one clause for each constructor.
 --
--- The plain operators carry widths, which come from the widths of the registers and ports of the process and from the acts
--- that make the variables.
+-- The plain operators carry widths, which come from the widths of the registers and ports of the process and from the
+-- acts that make the variables.
 use Rattle.std.specs.Prelude.{ℕ, true, false, List, [], ◌∷◌, ◌++◌, Option, Some, None}
 use Rattle.core_term.specs.declared.operators.BinOp.{BinOp}
 use Rattle.core_term.specs.declared.term.CoreExpr.{CoreExpr, Lit, Var, Reg, Not', Bin', Slice, Choose'}
 use Rattle.core_term.specs.declared.term.CoreTerm.{CoreTerm, One', Then', Both'}
-use Rattle.core_term.specs.declared.term.CoreKind.{CoreKind, Cycle, Set, Send, Recv, If', Block', Wait, Pure, Unit, Held-CoreKind-If-2, None', Some'}
+use Rattle.core_term.specs.declared.term.CoreKind.{CoreKind, Cycle, Set, Send, Recv, If', Block', Wait, Pure, Unit}
+use Rattle.core_term.specs.declared.term.CoreKind.{Held-CoreKind-If-2, None', Some'}
 use Rattle.core_term.specs.Term as term
 use Rattle.core_term.specs.Term.{Expr, Term, Act}
 use Rattle.core_term.specs.Widths.{Widths, bind_width, result_width, expr_width, act_width}
@@ -15,7 +16,8 @@ abbrev pub not_of_width : Widths → Expr → Expr
 not_of_width widths e = term.Not (expr_width widths e) e
 
 abbrev pub operation_of : Widths → BinOp → Expr → Expr → Expr
-operation_of widths o a b = term.Bin o (result_width o (expr_width widths a) (expr_width widths b)) (expr_width widths b) a b
+operation_of widths o a b =
+    term.Bin o (result_width o (expr_width widths a) (expr_width widths b)) (expr_width widths b) a b
 
 abbrev pub expr_of : Widths → CoreExpr → Expr
 expr_of widths (Lit b) = term.Lit b.width b.value

@@ -1,7 +1,8 @@
 -- The list of violations of a file.
 --
--- A violation is a demand that does not hold, told by its process, thread, rule and two sites. The list has exactly those, in
--- the order of process, thread, rule, first and second site, each once. A file without violations is accepted.
+-- A violation is a demand that does not hold, told by its process, thread, rule and two sites. The list has exactly
+-- those, in the order of process, thread, rule, first and second site, each once. A file without violations is
+-- accepted.
 use Rattle.std.specs.Prelude.{ℕ, ◌≡◌, ◌<◌, ◌⊎◌, List, [], ◌∷◌, zero, suc}
 use Rattle.core_term.specs.declared.rules.Rule.{Rule}
 use Rattle.core_term.specs.declared.rules.Rule.TheVariants.{V2, V3, V4, V5, V6, V7, V8}
@@ -60,8 +61,10 @@ pub record IsBroken (file : List Process) (v : Broken) : Type 0 where
 -- each record is of a demand that fails, each demand holds or has its record
 pub record IsViolations (file : List Process) (vs : List Broken) : Type 0 where
   pub sound : (v : Broken) → Has vs v → IsBroken file v
-  pub whole : (i j : ℕ) (p : Process) (thread : Thread) → IsNth file i p → IsThread p.threads j thread → (rule : Rule) (first second : ℕ) (claim : Claim) → Demands p j thread.body rule first second claim
-      → Holds p thread.body claim ⊎ Has vs (record { process = i; thread = j; rule = rule; first = first; second = second })
+  pub whole : (i j : ℕ) (p : Process) (thread : Thread) → IsNth file i p → IsThread p.threads j thread
+      → (rule : Rule) (first second : ℕ) (claim : Claim) → Demands p j thread.body rule first second claim
+      → Holds p thread.body claim
+      ⊎ Has vs (record { process = i; thread = j; rule = rule; first = first; second = second })
   pub ascending : IsAscending vs
 
 -- the file has no violations

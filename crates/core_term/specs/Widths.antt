@@ -1,8 +1,10 @@
 -- Widths of expressions and terms. A term that is unit has the width 0.
 use Rattle.std.specs.Prelude.{ℕ, ◌+◌, ◌-◌, ◌==◌, if◌then◌else◌, true}
 use Rattle.core_term.specs.declared.operators.BinOp.{BinOp}
-use Rattle.core_term.specs.declared.operators.BinOp.TheVariants.{Add, Sub, Mul, And, Or, Xor, Eq, Ne, Lt, Le, Gt, Ge, Shl, Shr, Cat}
-use Rattle.core_term.specs.Term.{Expr, Lit, Var, Reg, Not, Bin, Slice, Choose, Term, One, Then, Both, Act, Recv, If, Block, Wait, Pure, site}
+use Rattle.core_term.specs.declared.operators.BinOp.TheVariants.{Add, Sub, Mul, And, Or, Xor, Eq, Ne, Lt, Le, Gt, Ge}
+use Rattle.core_term.specs.declared.operators.BinOp.TheVariants.{Shl, Shr, Cat}
+use Rattle.core_term.specs.Term.{Expr, Lit, Var, Reg, Not, Bin, Slice, Choose, Term, One, Then, Both, Act, Recv, If}
+use Rattle.core_term.specs.Term.{Block, Wait, Pure, site}
 
 -- the widths of the registers and ports of a process, and of the variables in scope
 pub record Widths : Type 0 where
@@ -12,7 +14,12 @@ pub record Widths : Type 0 where
 
 -- the variable of the site p has the width w
 abbrev pub bind_width : Widths → ℕ → ℕ → Widths
-bind_width widths p w = record { registers = widths.registers; ports = widths.ports; variables = λ y. if y == p then w else widths.variables y }
+bind_width widths p w =
+    record {
+      registers = widths.registers;
+      ports = widths.ports;
+      variables = λ y. if y == p then w else widths.variables y;
+    }
 
 -- of the result of an operator, from those of its operands
 abbrev pub result_width : BinOp → ℕ → ℕ → ℕ
@@ -41,7 +48,8 @@ expr_width widths (Bin o w v a b) = w
 expr_width widths (Slice y high low) = high + 1 - low
 expr_width widths (Choose c a b) = expr_width widths a
 
--- a `recv` has the width of its message, an `if` that has a value that of its first side, and a chain that of its last part
+-- a `recv` has the width of its message, an `if` that has a value that of its first side, and a chain that of its last
+-- part
 abbrev mutual
   pub term_width : Widths → Term → ℕ
   term_width widths (One a) = act_width widths a

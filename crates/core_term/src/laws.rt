@@ -1,5 +1,7 @@
 //! Laws over the definitions, each the contract of a function that does nothing.
-ghost use Rattle.core_term.specs.Accepted.{CoreProcessIsProcess, NoViolationsIsAccepted};
+ghost use Rattle.core_term.specs.Accepted.{CoreProcessIsProcess, NoViolationsKeepsDemands};
+ghost use Rattle.core_term.specs.Acts.{EachSiteHasAnAct};
+ghost use Rattle.core_term.specs.Fitting.{RowsGiveFittingInputs};
 ghost use Rattle.core_term.specs.OneRun.{EachHasOneRun, RunsAgreeWhileRowsDo};
 ghost use Rattle.core_term.specs.Shown.{ShownTells};
 
@@ -16,8 +18,8 @@ pub fn runs_agree_while_rows_do()
 {}
 
 /// The list of violations of a file is empty exactly where each of its threads keeps each of its demands.
-pub fn no_violations_is_accepted()
-    ensures { NoViolationsIsAccepted }
+pub fn no_violations_keeps_demands()
+    ensures { NoViolationsKeepsDemands }
 {}
 
 /// A core process that is sized and owned, with bodies that are numbered and tail-stepped, stands for a process of the
@@ -29,4 +31,14 @@ pub fn core_process_is_process()
 /// A log line shows the data of a sent port exactly where the port is offered or in the life of one of its exchanges.
 pub fn shown_tells()
     ensures { ShownTells }
+{}
+
+/// Rows that fit the ports of a process are an input list whose data fit.
+pub fn rows_give_fitting_inputs()
+    ensures { RowsGiveFittingInputs }
+{}
+
+/// Each number below the count of its acts is the site of an act of a numbered body.
+pub fn each_site_has_an_act()
+    ensures { EachSiteHasAnAct }
 {}

@@ -6,6 +6,7 @@ pub mod accepted_example;
 #[cfg(test)]
 mod accepted_tests;
 pub mod agreement;
+mod atoms;
 pub mod example;
 pub mod laws;
 mod operators;
@@ -14,6 +15,7 @@ mod process;
 mod rows;
 mod rules;
 pub mod safety;
+mod table;
 pub mod tables;
 mod term;
 #[cfg(test)]
@@ -22,6 +24,8 @@ mod thread;
 pub mod turns;
 
 pub use accepted::Accepted;
+pub use anvil_bits::Bits;
+pub use anvil_lexer::Name;
 pub use operators::BinOp;
 pub use process::{CoreFile, CoreLife, CorePort, CoreProc, CoreReg};
 pub use rows::{InCell, OutCell, OutRow, Row};

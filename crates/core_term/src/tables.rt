@@ -1,5 +1,15 @@
 //! Laws of the tables of a graph, each the contract of a function that does nothing.
-ghost use Rattle.core_term.specs.TableLaws.{DemandsAreDecided, DemandsAreOfText, GraphsHaveTables, TablesTellClaims};
+ghost use Rattle.core_term.specs.TableLaws.{DemandsAreDecided, DemandsAreOfText, EntriesTellLast, EntriesTellOrder, GraphsHaveTables, TablesTellClaims};
+
+/// What tells the order of the nodes of two points tells the order of the points: one entry of a table tells one judgement.
+pub fn entries_tell_order()
+    ensures { EntriesTellOrder }
+{}
+
+/// The same of the last cycle of the life of what one send sends, whatever the other sends and ports.
+pub fn entries_tell_last()
+    ensures { EntriesTellLast }
+{}
 
 /// A claim over the points of a body holds exactly where the tables of a graph of the body show it.
 pub fn tables_tell_claims()

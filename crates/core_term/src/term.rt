@@ -79,8 +79,9 @@ pub enum CoreExpr {
     Choose(Box<CoreExpr>, Box<CoreExpr>, Box<CoreExpr>),
 }
 
-/// What a value rests on, told from the text: the data of a `recv`, a register that an act reads, the side of an `if`.
-#[derive(Clone, Copy, Debug, PartialEq, Eq)]
+/// What a value rests on, told from the text: the data of a `recv`, a register that an act reads, the side of an `if`. Atoms
+/// come in the order of these kinds, then of sites, then of registers.
+#[derive(Clone, Copy, Debug, PartialEq, Eq, PartialOrd, Ord)]
 pub enum SourceAtom {
     Wire { site: u32 },
     Reg { site: u32, reg: u32 },

@@ -1,6 +1,6 @@
 //! Each public call once on its happy path.
 use crate::example::{counting_body, counting_process};
-use crate::{CoreThread, OutRow};
+use crate::{CoreThread, OutRow, SourceAtom};
 use std::alloc::AllocError;
 
 #[test]
@@ -8,6 +8,10 @@ fn a_thread_knows_its_acts_and_their_places(rt: HostRuntime) -> Result<(), Alloc
     let thread = CoreThread::new(rt.alloc(), counting_body(rt.alloc(), 0)?)?;
     assert_eq!(rt; thread.count(), 2);
     assert_eq!(rt; thread.place(1), 0);
+    assert_eq!(rt; thread.value_atoms(0).len(), 0);
+    assert_eq!(rt; thread.use_atoms(0).len(), 1);
+    assert_eq!(rt; thread.use_atoms(0)[0], SourceAtom::Reg { site: 0, reg: 0 });
+    assert_eq!(rt; thread.use_atoms(1).len(), 0);
     Ok(())
 }
 

@@ -1,26 +1,35 @@
 //! A thread: a body that is numbered and tail-stepped, so that each of its turns takes time.
 ghost use Rattle.std.specs.Prelude.{◌≡◌, ◌<◌, length, slice_index, IfOk};
-ghost use Rattle.core_term.specs.View.{places_of};
+ghost use Rattle.core_term.specs.Numbering.{size};
+ghost use Rattle.core_term.specs.Sources.{act_sources};
+ghost use Rattle.core_term.specs.Widths.{Widths};
+ghost use Rattle.core_term.specs.View.{term_of, places_of};
 ghost use Rattle.core_term.specs.Body.{IsBody};
+ghost use Rattle.core_term.specs.Atoms.{use_sources, AreAtomsAt};
 
-use crate::CoreTerm;
+use crate::atoms::{add_uses, add_values};
 use crate::places::add_places;
+use crate::table::AtomTable;
+use crate::{CoreTerm, SourceAtom};
 use std::alloc::{AllocError, Global};
 use std::marker::Model;
 
 /// A thread. Contracts see it as its body, and know that the body is numbered, tail-stepped, of at most 512 acts and without
-/// a `cycle` of 0.
+/// a `cycle` of 0. The places and the atoms of its acts are found once, as it is made.
 #[derive(Drop)]
 pub struct CoreThread {
     body: CoreTerm,
     places: Vec<u32>,
+    values: AtomTable,
+    uses: AtomTable,
 }
 
 impl Model for CoreThread {
-    ghost use Rattle.std.specs.Prelude.{◌≡◌};
+    ghost use Rattle.std.specs.Prelude.{◌≡◌, []};
     ghost use Rattle.core_term.specs.declared.term.CoreTerm.{CoreTerm};
     ghost use Rattle.core_term.specs.View.{places_of};
     ghost use Rattle.core_term.specs.Body.{IsBody};
+    ghost use Rattle.core_term.specs.AtomTables.{add_values, uses_of};
     ghost use Rattle.core_term.specs.contracts.term.CoreTerm as core;
     ghost use Rattle.std.specs.Coded.{codes};
 
@@ -30,7 +39,7 @@ impl Model for CoreThread {
 
     ghost view = { λ t. t.body };
 
-    ghost invariant = { λ t. IsBody t.body × (t.places.items ≡ places_of t.body) };
+    ghost invariant = { λ t. IsBody t.body × (t.places.items ≡ places_of t.body) × (t.values ≡ add_values [] t.body) × (t.uses ≡ uses_of (add_values [] t.body) t.body) };
 }
 
 impl CoreThread {
@@ -43,7 +52,16 @@ impl CoreThread {
     {
         let mut places = Vec::new(alloc);
         add_places(&body, &mut places)?;
-        Ok(CoreThread { body, places })
+        let mut values = AtomTable::new(alloc);
+        add_values(alloc, &body, &mut values)?;
+        let mut uses = AtomTable::new(alloc);
+        add_uses(alloc, &body, &values, &mut uses)?;
+        Ok(CoreThread {
+            body,
+            places,
+            values,
+            uses,
+        })
     }
 
     /// The body.
@@ -55,8 +73,10 @@ impl CoreThread {
     }
 
     /// How many acts the body has.
+    #[tactic(auto, using(crate::proofs::Counted::counted))]
     pub fn count(&self) -> u32
-        ensures { result ≡ length (places_of self.now) }
+        ensures places { result ≡ length (places_of self.now) }
+        ensures size { (widths : Widths) → result ≡ size (term_of widths self.now) }
     {
         self.places.len() as u32
     }
@@ -67,5 +87,22 @@ impl CoreThread {
         ensures { result ≡ slice_index (places_of self.now) site }
     {
         self.places[site as usize]
+    }
+
+    /// The atoms of the value of the act of a site: exactly its sources, ascending and each once. Empty where it has no value.
+    pub fn value_atoms(&self, site: u32) -> &[SourceAtom]
+        requires { site < length (places_of self.now) }
+        ensures { (widths : Widths) → AreAtomsAt act_sources (term_of widths self.now) site result.now }
+    {
+        self.values.row(site)
+    }
+
+    /// The atoms of the expression that a `set`, `send` or `if` uses: exactly its sources, ascending and each once. Empty where
+    /// the act of the site uses none.
+    pub fn use_atoms(&self, site: u32) -> &[SourceAtom]
+        requires { site < length (places_of self.now) }
+        ensures { (widths : Widths) → AreAtomsAt use_sources (term_of widths self.now) site result.now }
+    {
+        self.uses.row(site)
     }
 }

@@ -1,8 +1,8 @@
 -- The module of a process that adds a constant to its register and then waits, over and over.
 --
--- States: `s__0` is 1 once the first turn has begun. `s__1` is 1 in the cycle after a turn's begin: the `set` has ended.
--- `s__2` counts the cycles of the wait that are left, and is loaded where the `set` ended, also in the cycle in which a
--- turn ends. Net 2 is 1 where a turn begins.
+-- States: `s__0` is 1 once the first turn has begun. `s__1` is 1 in the cycle after a turn's begin: the `set` has
+-- ended. `s__2` counts the cycles of the wait that are left, and is loaded where the `set` ended, also in the cycle in
+-- which a turn ends. Net 2 is 1 where a turn begins.
 use Rattle.std.specs.Prelude.{ℕ, List, [], ◌∷◌}
 use Rattle.core_term.specs.declared.operators.BinOp.TheVariants.{Add, Sub, Or, Eq, Ne}
 use Rattle.sv_tree.specs.declared.tree.SvRef.TheVariants.{Reg, Net}

@@ -9,7 +9,8 @@ use Rattle.fsm_builder.specs.Digits.{IsDigitCount}
 
 -- `set R := *R + W'dL >> cycle N`
 abbrev pub counting_body : (width addend cycles : ℕ) → Term
-counting_body width addend cycles = Then (Set 0 0 (Bin Add width width (Reg 0) (Lit width addend))) (One (Cycle 1 cycles))
+counting_body width addend cycles =
+    Then (Set 0 0 (Bin Add width width (Reg 0) (Lit width addend))) (One (Cycle 1 cycles))
 
 abbrev pub counting_process : (process register : List ℕ) (width addend cycles : ℕ) → Process
 counting_process process register width addend cycles = record {
@@ -19,8 +20,8 @@ counting_process process register width addend cycles = record {
   threads = record { body = counting_body width addend cycles; count = 2 } ∷ [];
 }
 
--- The bound on the state bits of its module: the register's width, 1 for the thread, 1 for the `set`, and the binary digits
--- of the cycles.
+-- The bound on the state bits of its module: the register's width, 1 for the thread, 1 for the `set`, and the binary
+-- digits of the cycles.
 pub record IsWithinStateBits (width cycles : ℕ) (m : Module) : Type 0 where
   pub digits : ℕ
   pub counted : IsDigitCount digits cycles

@@ -1,17 +1,9 @@
 -- A module of a process with one register and no ports: its name, its ports and its source register.
-use Rattle.std.specs.Prelude.{◌≡◌, ℕ, Bool, true, false, List, [], ◌∷◌, filter}
+use Rattle.std.specs.Prelude.{◌≡◌, ℕ, List, [], ◌∷◌}
 use Rattle.sv_tree.specs.declared.tree.SvReg.{SvReg}
-use Rattle.sv_tree.specs.declared.tree.SvRegName.{SvRegName}
-use Rattle.sv_tree.specs.declared.tree.SvRegName.TheVariants.{Source, State}
+use Rattle.sv_tree.specs.declared.tree.SvRegName.TheVariants.{Source}
 use Rattle.sv_tree.specs.Module.{Module}
-
-abbrev pub is_source_name : SvRegName → Bool
-is_source_name (Source name) = true
-is_source_name (State number) = false
-
--- the registers that stand in the source too, in their order
-abbrev pub source_registers : Module → List SvReg
-source_registers m = filter (λ r. is_source_name r.name) m.regs
+use Rattle.sv_tree.specs.Sources.{source_registers}
 
 -- a register of the source that is reset to 0
 abbrev pub source_register : (name : List ℕ) (width : ℕ) → SvReg

@@ -147,13 +147,19 @@ module _ (wait : ℕ) where
   three_cycles : (n : ℕ) → HasEnding (Within (n + 1)) → n ≡ 2
   three_cycles n e = let k : n + 1 ≡ 3 = cc in omega arith
 
+  not_zero : (k : ℕ) → HasEnding (Within k) → 3 ≡ k
+  not_zero k e = cc
+
+  not_none : HasEnding (Within 0) → ⊥
+  not_none e = let k : 3 ≡ 0 = not_zero 0 e in omega (arith, k)
+
   not_at : (b : ℕ) → HasEnding (last.At b) → ⊥
   not_at b e = cc
 
   refuted_last : (b far : ℕ) (d : ℤ) → time b < far → (pos (time b) <ℤ (pos far +ℤ d)) → (pos (time b) <ℤ (pos 4 +ℤ d)) → LastPrecedes d b → ⊥
   refuted_last b far d short near late k =
       elim (last_law ℕ HasForm Exclusive far (λ b. Unit {0}) (λ b t. time b ≡ t) (λ b. ⊥) (timed far) HasEnding (λ s l. s ≡ 2 → l ≡ 4)
-      (λ n e s i. let j = three_cycles n e in omega arith) (λ b e. absurd (not_at b e)) 1 tt k (time b) refl short near) [
+      not_none (λ n e s i. let j = three_cycles n e in omega arith) (λ b e. absurd (not_at b e)) 1 tt k (time b) refl short near) [
         | inl lost ↦ lost
         | inr z ↦ let i : 2 ≡ z.0 = z.2 in let l : z.1 ≡ 4 = z.3 (sym i) in let m = z.4 in omega (arith, ints)
       ]

@@ -7,9 +7,9 @@ use Rattle.std.specs.Prelude.{ℤ, pos, negsuc}
 use Rattle.std.proofs.lemmas.Int.{ints}
 use Rattle.order_rules.specs.Form.{Form, Start, Same, After, Sync, Join, Side, Merge}
 use Rattle.order_rules.specs.Before.{by_same, by_side, by_sync, by_first, by_second}
-use Rattle.order_rules.specs.Last.{Ending, Within, At, Last, within, at, weaker, later, after, merged, exclusive}
+use Rattle.order_rules.specs.Last.{Ending, Within, At, Last, within, empty, at, weaker, later, after, merged, exclusive}
 use Rattle.order_rules.specs.Lag.{Lag, Never, AtLeast, Vacuous, Admits}
-use Rattle.order_rules.specs.Entry.{most, fewer, right, entry, IsEarlier}
+use Rattle.order_rules.specs.Entry.{most, more, fewer, right, entry, IsEarlier}
 use Rattle.order_rules.specs.LastEntry.{IsListed, from_zero, end_entry, ends_entry, last_entry}
 use Rattle.order_rules.proofs.Exact.{admits_less, most_first, most_second, most_either, least_both, least_parts, more_to, more_of, fewer_to, fewer_of, complete, sound}
 
@@ -60,8 +60,9 @@ module _ (form : ℕ → Form ℕ) (apart : ℕ → ℕ → Bool) (table : ℕ �
       let k : (n + 1 == 0) ≡ false = grind (arith, nat_tests) in
       let m : n + 1 - 1 ≡ n = omega arith in
       let z : Admits (fewer n (table a b)) d = fewer_to n (table a b) d (complete form apart table closed earlier r) in
-      let y : Admits (if n + 1 == 0 then Never else fewer (n + 1 - 1) (table a b)) d = rw (k, m) z in
+      let y : Admits (if n + 1 == 0 then more 1 (table a b) else fewer (n + 1 - 1) (table a b)) d = rw (k, m) z in
       by_end b d (Within (n + 1)) i y
+  complete_last (empty {b = b} {d = d} i r) = by_end b d (Within 0) i (more_to 1 (table a b) d (complete form apart table closed earlier r))
   complete_last (at {b = b} {d = d} i r n) =
       let k : (b == b) ≡ true = grind (arith, nat_tests) in
       let z : from_zero (table a b) ≡ true = zero_true (table a b) (complete form apart table closed earlier r) in
@@ -82,8 +83,11 @@ module _ (form : ℕ → Form ℕ) (apart : ℕ → ℕ → Bool) (table : ℕ �
   end_sound : (b : ℕ) (d : ℤ) (f : Ending ℕ) → IsListed ends f → Admits (end_entry (table a b) b f) d → Ends d b
   end_sound b d (Within k) i m = go (k == 0) refl m
     where
-      go : (c : Bool) → (k == 0) ≡ c → Admits (if c then Never else fewer (k - 1) (table a b)) d → Ends d b
-      go true q n = elim n [ ]
+      go : (c : Bool) → (k == 0) ≡ c → Admits (if c then more 1 (table a b) else fewer (k - 1) (table a b)) d → Ends d b
+      go true q n =
+          let z : k ≡ 0 = grind (arith, nat_tests) in
+          let P : ℕ → Type 0 = λ z. IsListed ends (Within z) in
+          empty (subst P z i) (sound form apart table closed earlier a b _ (more_of 1 (table a b) d n))
       go false q n =
           let z : k ≡ 0 → ⊥ = grind (arith, nat_tests) in
           let y : k ≡ k - 1 + 1 = omega (arith, z) in

@@ -7,12 +7,12 @@ use Rattle.std.specs.Prelude.{ℤ, pos, ◌+ℤ◌, ◌≤ℤ◌, ◌<ℤ◌}
 use Rattle.std.proofs.lemmas.Int.{ints}
 use Rattle.order_rules.specs.Form.{Form}
 use Rattle.order_rules.specs.Timed.{Timed}
-use Rattle.order_rules.specs.Last.{Ending, Within, At, Last, within, at, weaker, later, after, merged, exclusive}
+use Rattle.order_rules.specs.Last.{Ending, Within, At, Last, within, empty, at, weaker, later, after, merged, exclusive}
 use Rattle.order_rules.proofs.Law as order
 
 module _ (P : Type 0) (HasForm : P → Form P → Type 0) (Exclusive : P → P → Type 0) (T : ℕ) (Left : P → Type 0) (Occurs : P → ℕ → Type 0) (Lost : P → Type 0) (timed : Timed P HasForm Exclusive T Left Occurs Lost)
     (HasEnding : Ending P → Type 0) (Over : ℕ → ℕ → Type 0)
-    (over_within : (n : ℕ) → HasEnding (Within (n + 1)) → (s : ℕ) → Over s (s + n))
+    (lasts : HasEnding (Within 0) → ⊥) (over_within : (n : ℕ) → HasEnding (Within (n + 1)) → (s : ℕ) → Over s (s + n))
     (over_at : (b : P) → HasEnding (At b) → (s t : ℕ) → Occurs b t → s ≤ t → Over s t) (a : P) (left : Left a) where
   -- a has occurred, and what lives from it on is over by t - d
   abbrev pub IsOver : ℤ → ℕ → Type 0
@@ -24,6 +24,7 @@ module _ (P : Type 0) (HasForm : P → Form P → Type 0) (Exclusive : P → P �
         | inl x ↦ inl x
         | inr x ↦ inr (x.0, x.0 + n, x.2, over_within n e x.0, omega (arith, ints))
       ]
+  last_law (empty e r) t o lt less = absurd (lasts e)
   last_law (at {b = b} e r z) t o lt less =
       elim (order.law P HasForm Exclusive T Left Occurs Lost timed r left t o (omega (arith, ints))) [
         | inl x ↦ inl x

@@ -4,7 +4,7 @@ use Rattle.std.proofs.Common.{◌≡◌, ◌+◌, inl, inr, refl, sym, ◌∙◌
 use Rattle.std.specs.Prelude.{ℤ}
 use Rattle.order_rules.specs.Form.{Form, Same}
 use Rattle.order_rules.specs.Before.{OnceOrLater, by_same, by_side, by_sync, by_first, by_second}
-use Rattle.order_rules.specs.Last.{Ending, Last, within, at, weaker, later, after, merged, exclusive}
+use Rattle.order_rules.specs.Last.{Ending, Last, within, empty, at, weaker, later, after, merged, exclusive}
 use Rattle.order_rules.specs.Standing.{map_form, IsPoint, Chain, stop, same, Stands, EndsStand}
 use Rattle.order_rules.proofs.Transfer.{to_nodes, later_in_text, from_nodes, same_is, later_of, after_of, merge_of, root_at, has}
 
@@ -21,6 +21,7 @@ module _ (P Q : Type 0) (HasForm : P → Form P → Type 0) (HasForm' : Q → Fo
 
   pub last_to_nodes : {b : P} {d : ℤ} → IsPoint P HasForm b → LastOf d b → LastOnNodes d (node b)
   last_to_nodes q (within n e r) = within n (ends.within (n + 1) e) (to_nodes P Q HasForm HasForm' Apart Apart' node stands point q r)
+  last_to_nodes q (empty e r) = empty (ends.within 0 e) (to_nodes P Q HasForm HasForm' Apart Apart' node stands point q r)
   last_to_nodes q (at {b = b} e r k) = at (ends.at b e) (to_nodes P Q HasForm HasForm' Apart Apart' node stands point q r) k
   last_to_nodes q (weaker k r) = weaker k (last_to_nodes q r)
   last_to_nodes q (later {b = b} {c = c} {d = d} f by_same r) =
@@ -40,6 +41,7 @@ module _ (P Q : Type 0) (HasForm : P → Form P → Type 0) (HasForm' : Q → Fo
 
   pub last_from_nodes : {v : Q} {d : ℤ} → LastOnNodes d v → (b : P) → IsPoint P HasForm b → node b ≡ v → LastOf d b
   last_from_nodes (within n e r) b q f = within n (ends.within_back (n + 1) e) (from_nodes P Q HasForm HasForm' Apart Apart' node stands r a b point q refl f)
+  last_from_nodes (empty e r) b q f = empty (ends.within_back 0 e) (from_nodes P Q HasForm HasForm' Apart Apart' node stands r a b point q refl f)
   last_from_nodes (at {b = v} e r k) b q f =
       let z = ends.at_back v e in
       right_chain (ends.root z.0 b z.2 q (f ∙ sym z.3)) (at z.2 (from_nodes P Q HasForm HasForm' Apart Apart' node stands r a z.0 point z.1 refl z.3) k)

@@ -56,7 +56,8 @@ left lag b (Merge c e) = least (lag c b) (lag e b)
 -- the entry at a and b
 abbrev pub entry : (ℕ → Form ℕ) → (ℕ → ℕ → Bool) → (ℕ → ℕ → Lag) → ℕ → ℕ → Lag
 entry form apart lag a b =
-    if apart a b then Vacuous else most (if a == b then AtLeast (pos 0) else Never) (most (right lag a (form b)) (left lag b (form a)))
+    if apart a b then Vacuous else most (if a == b then AtLeast (pos 0) else Never)
+    (most (right lag a (form b)) (left lag b (form a)))
 
 -- each predecessor of the node b is an earlier node
 abbrev pub IsEarlier : ℕ → Form ℕ → Type 0

@@ -20,9 +20,12 @@ abbrev pub Tells : Lag → (ℤ → Type 0) → Type 0
 Tells lag Holds = (d : ℤ) → (Holds d → Admits lag d) × (Admits lag d → Holds d)
 
 -- a table of the order of all points
-abbrev pub IsOrderTable : (P : Type 0) (HasForm : P → Form P → Type 0) (Exclusive : P → P → Type 0) → (P → P → Lag) → Type 0
+abbrev pub IsOrderTable : (P : Type 0) (HasForm : P → Form P → Type 0) (Exclusive : P → P → Type 0) → (P → P → Lag)
+    → Type 0
 IsOrderTable P HasForm Exclusive lag = (a b : P) → Tells (lag a b) (λ d. Before P HasForm Exclusive a d b)
 
 -- a table of the last cycle of a life from a on against all points
-abbrev pub IsLastTable : (P : Type 0) (HasForm : P → Form P → Type 0) (Exclusive : P → P → Type 0) (HasEnding : Ending P → Type 0) → P → (P → Lag) → Type 0
-IsLastTable P HasForm Exclusive HasEnding a lag = (b : P) → Tells (lag b) (λ d. Last P HasForm Exclusive HasEnding a d b)
+abbrev pub IsLastTable : (P : Type 0) (HasForm : P → Form P → Type 0) (Exclusive : P → P → Type 0)
+    (HasEnding : Ending P → Type 0) → P → (P → Lag) → Type 0
+IsLastTable P HasForm Exclusive HasEnding a lag =
+    (b : P) → Tells (lag b) (λ d. Last P HasForm Exclusive HasEnding a d b)

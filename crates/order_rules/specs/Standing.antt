@@ -1,7 +1,7 @@
 -- A graph whose nodes stand for points, where a point of the form Same may stand for its predecessor.
 --
--- So a node stands for a chain of points that come together. What is asked of the graph is asked for the points of the text
--- alone.
+-- So a node stands for a chain of points that come together. What is asked of the graph is asked for the points of the
+-- text alone.
 use Rattle.std.specs.Prelude.{◌≡◌, ℕ, ◌⊎◌}
 use Rattle.order_rules.specs.Form.{Form, Start, Same, After, Sync, Join, Side, Merge}
 use Rattle.order_rules.specs.Last.{Ending, Within, At}
@@ -34,19 +34,25 @@ AllOf Q (Join c e) = Q c × Q e
 AllOf Q (Side c) = Q c
 AllOf Q (Merge c e) = Q c × Q e
 
--- The node of a point stands for it, for all points of the text: those that a form names are points of the text; a point has the
--- form of its node, or is a Same point that shares the node of its predecessor; each form of a node is that of a point that ends
--- the chain; two points of one node are reached from one point by Same points; and exclusion is the same on both sides.
-pub record Stands (P Q : Type 0) (HasForm : P → Form P → Type 0) (HasForm' : Q → Form Q → Type 0) (Apart : P → P → Type 0) (Apart' : Q → Q → Type 0) (node : P → Q) : Type 0 where
+-- The node of a point stands for it, for all points of the text: those that a form names are points of the text; a
+-- point has the form of its node, or is a Same point that shares the node of its predecessor; each form of a node is
+-- that of a point that ends the chain; two points of one node are reached from one point by Same points; and exclusion
+-- is the same on both sides.
+pub record Stands (P Q : Type 0) (HasForm : P → Form P → Type 0) (HasForm' : Q → Form Q → Type 0)
+    (Apart : P → P → Type 0) (Apart' : Q → Q → Type 0) (node : P → Q) : Type 0 where
   pub pred : (b : P) (f : Form P) → HasForm b f → AllOf (IsPoint P HasForm) f
-  pub step : (b : P) (f : Form P) → HasForm b f → ((c : P) × (f ≡ Same c) × (node b ≡ node c)) ⊎ HasForm' (node b) (map_form node f)
-  pub root : (b : P) → IsPoint P HasForm b → (g : Form Q) → HasForm' (node b) g → (r : P) × (f : Form P) × Chain P HasForm r b × HasForm r f × (map_form node f ≡ g)
-  pub one : (a b : P) → IsPoint P HasForm a → IsPoint P HasForm b → node a ≡ node b → (r : P) × Chain P HasForm r a × Chain P HasForm r b
+  pub step : (b : P) (f : Form P) → HasForm b f
+      → ((c : P) × (f ≡ Same c) × (node b ≡ node c)) ⊎ HasForm' (node b) (map_form node f)
+  pub root : (b : P) → IsPoint P HasForm b → (g : Form Q) → HasForm' (node b) g
+      → (r : P) × (f : Form P) × Chain P HasForm r b × HasForm r f × (map_form node f ≡ g)
+  pub one : (a b : P) → IsPoint P HasForm a → IsPoint P HasForm b → node a ≡ node b
+      → (r : P) × Chain P HasForm r a × Chain P HasForm r b
   pub apart : (a b : P) → IsPoint P HasForm a → IsPoint P HasForm b → Apart a b → Apart' (node a) (node b)
   pub apart_back : (a b : P) → IsPoint P HasForm a → IsPoint P HasForm b → Apart' (node a) (node b) → Apart a b
 
 -- the ends of a life on the graph are those on the points; an end stands for itself
-pub record EndsStand (P Q : Type 0) (HasForm : P → Form P → Type 0) (node : P → Q) (HasEnding : Ending P → Type 0) (HasEnding' : Ending Q → Type 0) : Type 0 where
+pub record EndsStand (P Q : Type 0) (HasForm : P → Form P → Type 0) (node : P → Q) (HasEnding : Ending P → Type 0)
+    (HasEnding' : Ending Q → Type 0) : Type 0 where
   pub within : (n : ℕ) → HasEnding (Within n) → HasEnding' (Within n)
   pub within_back : (n : ℕ) → HasEnding' (Within n) → HasEnding (Within n)
   pub at : (b : P) → HasEnding (At b) → HasEnding' (At (node b))

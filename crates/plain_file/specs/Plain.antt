@@ -1,10 +1,10 @@
 -- A plain file, on the tree of a file: what the tool can build until it builds every process.
 --
--- It has no class and any number of counting processes, also none, whose names differ. A counting process has no endpoints,
--- one register without a reset literal, and one thread, which adds a constant to the register and then waits:
--- `proc P() { reg R : logic[W]; loop { set R := *R + W'dL >> cycle N } }`. Nothing is asked of places, so layout, comments,
--- parentheses and the base of the literal are free: the tree has none of them. A process whose literal stands first, or whose
--- acts stand in a block, is none, though it would count just so.
+-- It has no class and any number of counting processes, also none, whose names differ. A counting process has no
+-- endpoints, one register without a reset literal, and one thread, which adds a constant to the register and then waits:
+-- `proc P() { reg R : logic[W]; loop { set R := *R + W'dL >> cycle N } }`. Nothing is asked of places, so layout,
+-- comments, parentheses and the base of the literal are free: the tree has none of them. A process whose literal stands
+-- first, or whose acts stand in a block, is none, though it would count just so.
 use Rattle.std.specs.Prelude.{◌≡◌, ◌≢◌, ⊤, ℕ, ◌^◌, ◌<◌, ◌≤◌, IsTrue, List, [], ◌∷◌, length, None}
 use Rattle.std.specs.List.{AllByRecursion}
 use Rattle.anvil_lexer.specs.GoodName.{is_good_name}
@@ -62,7 +62,8 @@ pub record IsTurn (register : Name) (width addend cycles : ℕ) (term : Term) : 
 pub record IsOnlyRegister (register : Name) (width : ℕ) (registers : List Register) : Type 0 where
   pub register_at : ℕ
   pub width_at : ℕ
-  pub is : registers ≡ record { name = register; at = register_at; width = width; width_at = width_at; reset = None } ∷ []
+  pub is : registers
+      ≡ record { name = register; at = register_at; width = width; width_at = width_at; reset = None } ∷ []
 
 -- no endpoints, that register, and one thread, which takes such turns
 pub record Counts (register : Name) (width addend cycles : ℕ) (proc : Process) : Type 0 where
@@ -81,7 +82,8 @@ pub record IsCountingProcess (counter : Counter) (proc : Process) : Type 0 where
 -- each item is a process, that of the counter in the same place of the list
 pub data AreCounting : List Counter → List Item → Type 0 where
   none : AreCounting [] []
-  more : {counter : Counter} {counters : List Counter} {proc : Process} {items : List Item} → IsCountingProcess counter proc → AreCounting counters items
+  more : {counter : Counter} {counters : List Counter} {proc : Process} {items : List Item}
+      → IsCountingProcess counter proc → AreCounting counters items
       → AreCounting (counter ∷ counters) (process proc ∷ items)
 
 -- none of the processes has the name

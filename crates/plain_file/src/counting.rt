@@ -61,7 +61,8 @@ fn sum_of(expr: &Expr) -> Option<Sum<'_>>
 
 // `cycle N`.
 fn wait_of(term: &Term) -> Option<u32>
-    ensures { MatchOption result ((cycles : ℕ) → IsWait cycles (term_of term.now) → ⊥) (λ cycles. IsWait cycles (term_of term.now)) }
+    ensures { MatchOption result ((cycles : ℕ) → IsWait cycles (term_of term.now) → ⊥)
+        (λ cycles. IsWait cycles (term_of term.now)) }
 {
     match term {
         Term::One(

@@ -6,4 +6,6 @@
 mod counting;
 mod plain;
 
+pub use anvil_lexer::Name;
+pub use anvil_tree::File;
 pub use plain::{Plain, read_plain};

@@ -44,7 +44,14 @@ fn fits(width: u32, value: u128) -> bool
 
 // Whether the names are good and the numbers within their limits.
 fn limits_hold(process: &Name, turn: &Turn<'_>) -> bool
-    ensures { IsTrue result ↔ IsCounter (record { process = process.now; register = turn.now.register.now; width = turn.now.width; addend = turn.now.addend; cycles = turn.now.cycles }) }
+    ensures { IsTrue result ↔ IsCounter
+        (record {
+          process = process.now;
+          register = turn.now.register.now;
+          width = turn.now.width;
+          addend = turn.now.addend;
+          cycles = turn.now.cycles;
+        }) }
 {
     is_plain_name(process)
         && is_plain_name(turn.register)
@@ -58,7 +65,8 @@ fn limits_hold(process: &Name, turn: &Turn<'_>) -> bool
 // What the process does in each turn, where it counts in its one register.
 fn turn_in(process: &Proc) -> Option<Turn<'_>>
     ensures { MatchOption result
-        ((register : List ℕ) (width addend cycles : ℕ) → Counts register width addend cycles (process_of process.now) → ⊥)
+        ((register : List ℕ) (width addend cycles : ℕ)
+        → Counts register width addend cycles (process_of process.now) → ⊥)
         (λ turn. Counts turn.register.now turn.width turn.addend turn.cycles (process_of process.now)) }
 {
     if !process.endpoints.is_empty() {
@@ -142,8 +150,8 @@ fn names_differ(plains: &[Plain<'_>]) -> bool
     true
 }
 
-/// The processes of a plain file in their order, and None where the file is no plain one. It refuses only where memory is
-/// refused.
+/// The processes of a plain file in their order, and None where the file is no plain one. It refuses only where memory
+/// is refused.
 pub fn read_plain(alloc: Global, file: &File) -> Result<Option<Vec<Plain<'_>>>, AllocError>
     ensures { IfOk result (λ found. MatchOption found
         ((counters : List Counter) → IsPlainFile counters (file_of file.now) → ⊥)

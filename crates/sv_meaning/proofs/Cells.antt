@@ -32,7 +32,7 @@ pub data_read :
 data_read cells k width valid v there wide = rw there (subst (λ bits. v ≡ number_of bits v.value) wide refl)
 
 received_fits : (port : SvPort) (cell : InCell) → IsTrue (cell_fits (port_of port) cell) → port.received ≡ true → IsReceivedOf port.width cell
-received_fits port (incoming.Received valid v) fits received = eqb-true _ _ (and_parts _ _ fits).1
+received_fits port (incoming.Received valid v) fits received = eqb-true _ _ (and_parts _ _ (and_parts _ _ fits).1).0
 received_fits port (incoming.Sent ack) fits received = false≢true (grind (arith, fits, received))
 
 sent_fits : (port : SvPort) (cell : InCell) → IsTrue (cell_fits (port_of port) cell) → is_sent (Some port) ≡ true → IsSent cell

@@ -22,7 +22,8 @@ use Rattle.sv_tree.specs.Clocked.{settled_value, operand_value, net_values, outp
 use Rattle.sv_tree.proofs.WellFormedPoints.{points_of}
 use Rattle.sv_meaning.specs.declared.cycle.Cycle.{Cycle}
 use Rattle.sv_meaning.specs.Cycle.{AreRegisters, in_cells, values, widths, operand_in, out_in}
-use Rattle.sv_meaning.specs.Shown.{cell_of, cells_of, is_source, source_count, sources_of}
+use Rattle.sv_tree.specs.Sources.{is_source}
+use Rattle.sv_meaning.specs.Shown.{cell_of, cells_of, source_count, sources_of}
 use Rattle.core_term.specs.declared.rows.Row.{Row}
 use Rattle.sv_meaning.specs.Rows.{BeginsWith}
 use Rattle.sv_meaning.specs.State.{State}

@@ -1,8 +1,7 @@
--- A cycle as the machine works it out: one row, the registers, and the nets valued so far. All are numbers with a width.
-use Rattle.std.specs.Prelude.{◌≡◌, ◌+◌, ◌==◌, ◌&&◌, ℕ, Bool, IsTrue, List, length, map, take}
+-- A cycle as the machine works it out: one row, the registers, and the nets valued so far. All are numbers with a
+-- width.
+use Rattle.std.specs.Prelude.{◌≡◌, ◌==◌, ◌&&◌, ℕ, Bool, IsTrue, List, length, map, take}
 use Rattle.anvil_bits.specs.Number.{Number}
-use Rattle.core_term.specs.declared.operators.BinOp.{BinOp}
-use Rattle.core_term.specs.declared.operators.BinOp.TheVariants.{Add, Sub, Mul, And, Or, Xor, Eq, Ne, Lt, Le, Gt, Ge, Shl, Shr, Cat}
 use Rattle.core_term.specs.declared.rows.OutCell.{OutCell}
 use Rattle.core_term.specs.declared.rows.OutCell.TheVariants as outgoing
 use Rattle.core_term.specs.declared.rows.InCell.{InCell}
@@ -39,7 +38,9 @@ AreAllNets tree numbers = widths numbers ≡ map (λ net. net.width) tree.nets
 
 -- the cells fit the ports, and the registers are those of the module
 abbrev pub IsCycle : Cycle → Type 0
-IsCycle cycle = IsTrue (cells_fit (map port_of cycle.module.now.ports) cycle.cells.now) × AreRegisters cycle.module.now cycle.registers.now
+IsCycle cycle =
+    IsTrue (cells_fit (map port_of cycle.module.now.ports) cycle.cells.now)
+    × AreRegisters cycle.module.now cycle.registers.now
 
 -- inputs that have these cells in each cycle
 abbrev pub in_cells : List InCell → Inputs
@@ -52,41 +53,28 @@ in_cells cells = record {
 
 abbrev pub name_in : Cycle → (nets : List Number) → SvRef → Number
 name_in cycle nets name =
-    number_of (ref_width cycle.module.now name) (ref_value (in_cells cycle.cells.now) 0 (values cycle.registers.now) (values nets) name)
+    number_of (ref_width cycle.module.now name)
+    (ref_value (in_cells cycle.cells.now) 0 (values cycle.registers.now) (values nets) name)
 
 abbrev pub operand_in : Cycle → (nets : List Number) → SvOperand → Number
 operand_in cycle nets x =
-    number_of (operand_width cycle.module.now x) (operand_value (in_cells cycle.cells.now) 0 (values cycle.registers.now) (values nets) x)
+    number_of (operand_width cycle.module.now x)
+    (operand_value (in_cells cycle.cells.now) 0 (values cycle.registers.now) (values nets) x)
 
 abbrev pub net_in : Cycle → (nets : List Number) → SvNet → Number
 net_in cycle nets net =
     number_of net.width
-    (operation_value cycle.module.now (in_cells cycle.cells.now) 0 (values cycle.registers.now) (values nets) net.width net.op)
+    (operation_value cycle.module.now (in_cells cycle.cells.now) 0 (values cycle.registers.now) (values nets) net.width
+    net.op)
 
 -- the outgoing wires of a port that are given by operands
 abbrev pub out_in : Cycle → (nets : List Number) → SvOut → OutCell
 out_in cycle nets (Received ack) = outgoing.Received ((operand_in cycle nets ack).value == 1)
-out_in cycle nets (Sent value valid) = outgoing.Sent ((operand_in cycle nets valid).value == 1) (operand_in cycle nets value)
+out_in cycle nets (Sent value valid) =
+    outgoing.Sent ((operand_in cycle nets valid).value == 1) (operand_in cycle nets value)
 
 -- operands that stand once all nets are valued
 abbrev pub out_stands : Module → SvOut → Bool
 out_stands tree (Received ack) = operand_stands tree (length tree.nets) ack
-out_stands tree (Sent value valid) = operand_stands tree (length tree.nets) value && operand_stands tree (length tree.nets) valid
-
--- how wide the result of an operator is, by the widths of its operands
-abbrev pub result_width : BinOp → (x y : ℕ) → ℕ
-result_width Add x y = x
-result_width Sub x y = x
-result_width Mul x y = x
-result_width And x y = x
-result_width Or x y = x
-result_width Xor x y = x
-result_width Eq x y = 1
-result_width Ne x y = 1
-result_width Lt x y = 1
-result_width Le x y = 1
-result_width Gt x y = 1
-result_width Ge x y = 1
-result_width Shl x y = x
-result_width Shr x y = x
-result_width Cat x y = x + y
+out_stands tree (Sent value valid) =
+    operand_stands tree (length tree.nets) value && operand_stands tree (length tree.nets) valid

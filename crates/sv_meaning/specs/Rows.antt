@@ -9,7 +9,8 @@ use Rattle.sv_tree.specs.Module.{Module}
 
 -- a port of a module as one of a process, of which no life is known
 abbrev pub port_of : SvPort → Port
-port_of port = record { endpoint = port.endpoint; message = port.message; received = port.received; width = port.width; life = [] }
+port_of port =
+    record { endpoint = port.endpoint; message = port.message; received = port.received; width = port.width; life = [] }
 
 -- a cell for each port, of its direction and width
 abbrev pub FitsPorts : Module → Row → Type 0

@@ -57,7 +57,8 @@ abbrev pub counter_nexts : List SvOperand
 counter_nexts = net 4 ∷ literal 1 1 ∷ net 2 ∷ net 8 ∷ []
 
 abbrev pub counter : Module
-counter = record { proc = codes "c"; ports = []; regs = counter_regs; nets = counter_nets; outs = []; nexts = counter_nexts }
+counter =
+    record { proc = codes "c"; ports = []; regs = counter_regs; nets = counter_nets; outs = []; nexts = counter_nexts }
 
 -- hands each byte on with its halves exchanged, and keeps the last one in a register
 abbrev pub exchanger_ports : List SvPort

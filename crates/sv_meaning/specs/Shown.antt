@@ -1,5 +1,5 @@
 -- What an output row shows of a cycle: the outgoing wires of each port, and the source registers.
-use Rattle.std.specs.Prelude.{◌≡◌, ◌==◌, ℕ, suc, Bool, true, false, if◌then◌else◌, List, [], ◌∷◌, ◌++◌, length}
+use Rattle.std.specs.Prelude.{◌≡◌, ◌==◌, ℕ, suc, if◌then◌else◌, List, [], ◌∷◌, ◌++◌, length}
 use Rattle.anvil_bits.specs.Number.{Number}
 use Rattle.core_term.specs.declared.rows.OutCell.{OutCell}
 use Rattle.core_term.specs.declared.rows.OutCell.TheVariants as outgoing
@@ -9,9 +9,8 @@ use Rattle.core_term.specs.Inputs.{Inputs}
 use Rattle.core_term.specs.Rows.{number_of}
 use Rattle.sv_tree.specs.declared.tree.SvPort.{SvPort}
 use Rattle.sv_tree.specs.declared.tree.SvReg.{SvReg}
-use Rattle.sv_tree.specs.declared.tree.SvRegName.{SvRegName}
-use Rattle.sv_tree.specs.declared.tree.SvRegName.TheVariants.{Source, State}
 use Rattle.sv_tree.specs.Module.{Module}
+use Rattle.sv_tree.specs.Sources.{is_source}
 use Rattle.sv_tree.specs.Clocked.{Output, received, sent, outputs_at, registers_at}
 use Rattle.sv_meaning.specs.Rows.{BeginsWith}
 
@@ -24,10 +23,6 @@ abbrev pub cells_of : List SvPort → List Output → List OutCell
 cells_of [] outputs = []
 cells_of (port ∷ ports) [] = []
 cells_of (port ∷ ports) (output ∷ outputs) = cell_of port output ∷ cells_of ports outputs
-
-abbrev pub is_source : SvRegName → Bool
-is_source (Source name) = true
-is_source (State number) = false
 
 -- how many registers are of the source
 abbrev pub source_count : List SvReg → ℕ
@@ -48,9 +43,11 @@ sources_of (reg ∷ regs) (value ∷ values) =
 -- The cycle after `rows`, in which `row` comes in, whatever comes in later: what goes out on each port.
 abbrev pub ShowsOutputs : (rows : List Row) → (row : Row) → Module → OutRow → Type 0
 ShowsOutputs rows row tree shown =
-    (inputs : Inputs) → BeginsWith inputs (rows ++ row ∷ []) → shown.cells.items ≡ cells_of tree.ports (outputs_at tree inputs (length rows))
+    (inputs : Inputs) → BeginsWith inputs (rows ++ row ∷ [])
+    → shown.cells.items ≡ cells_of tree.ports (outputs_at tree inputs (length rows))
 
 -- and what the registers of the source hold
 abbrev pub ShowsSources : (rows : List Row) → (row : Row) → Module → OutRow → Type 0
 ShowsSources rows row tree shown =
-    (inputs : Inputs) → BeginsWith inputs (rows ++ row ∷ []) → shown.regs.items ≡ sources_of tree.regs (registers_at tree inputs (length rows))
+    (inputs : Inputs) → BeginsWith inputs (rows ++ row ∷ [])
+    → shown.regs.items ≡ sources_of tree.regs (registers_at tree inputs (length rows))

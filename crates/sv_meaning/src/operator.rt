@@ -4,7 +4,7 @@ ghost use Rattle.anvil_bits.specs.Number.{widest};
 ghost use Rattle.core_term.specs.Operators.{operate as operated};
 ghost use Rattle.core_term.specs.Rows.{number_of};
 ghost use Rattle.sv_tree.specs.WellFormed.{bin_widths_fit};
-ghost use Rattle.sv_meaning.specs.Cycle.{result_width};
+ghost use Rattle.core_term.specs.Widths.{result_width};
 
 use anvil_bits::Bits;
 use core_term::BinOp;

@@ -6,13 +6,13 @@ use Rattle.sv_tree.specs.Module.{Module}
 use Rattle.sv_tree.specs.Text.{IsTextOf}
 use Rattle.sv_reader.specs.declared.error.SvErr.{SvErr}
 use Rattle.sv_reader.specs.declared.error.SvErr.TheVariants.{NotEmitted, NoMemory}
-use Rattle.sv_reader.specs.Refused.{IsNotEmitted}
+use Rattle.sv_lines.specs.Refused.{IsNotEmitted}
 use Rattle.sv_reader.specs.SeenState.{IsRefusedBy}
-use Rattle.sv_reader.specs.State.{State, between, inside, start}
-use Rattle.sv_reader.specs.Step.{read_on, read_to_end, stopped}
-use Rattle.sv_reader.proofs.TextRead.{one_list}
-use Rattle.sv_reader.proofs.NotEmitted.{stopped_is_not_emitted, piece_is_not_emitted, inside_is_not_emitted, one_place, emitted_or_not}
-use Rattle.sv_reader.proofs.Whole.{viable, read_is_text}
+use Rattle.sv_lines.specs.State.{State, between, inside, start}
+use Rattle.sv_lines.specs.Step.{read_on, read_to_end, stopped}
+use Rattle.sv_lines.proofs.back.TextRead.{one_list}
+use Rattle.sv_lines.proofs.answer.NotEmitted.{stopped_is_not_emitted, piece_is_not_emitted, inside_is_not_emitted, one_place, emitted_or_not}
+use Rattle.sv_lines.proofs.begun.Whole.{viable, read_is_text}
 
 -- want of memory, or the place where the text is not emitted
 abbrev pub Refuses : List ℕ → SvErr → Type 0
@@ -62,7 +62,7 @@ stopped_answers text fault (inr (at, same, stops)) = inr (at, same, stopped_is_n
 
 nothing_left : (text : List ℕ) (state : State) → read_on start 0 [] text ≡ read_to_end state [] → ((modules : List Module) → state ≢ between modules) → IsNotEmitted text (length text)
 nothing_left text (between whole) read other = absurd (other whole refl)
-nothing_left text (inside whole draft place) read other = inside_is_not_emitted viable text whole draft place read
+nothing_left text (inside whole draft wanted) read other = inside_is_not_emitted viable text whole draft wanted read
 
 not_emitted : (text : List ℕ) (state : State) (left : List ℕ) → length left ≤ length text → read_on start 0 [] text ≡ read_to_end state left
     → ((length left ≡ 0) → (modules : List Module) → state ≢ between modules) → IsNotEmitted text (length text - length left)

@@ -6,12 +6,13 @@ use Rattle.sv_reader.specs.declared.lines.WireLine.{WireLine}
 use Rattle.sv_reader.specs.declared.lines.Label.{Label}
 use Rattle.sv_reader.specs.declared.lines.Label.TheVariants as label
 use Rattle.sv_reader.specs.declared.lines.Declared.{Declared}
-use Rattle.sv_reader.specs.Lines as lines
+use Rattle.sv_lines.specs.Lines as lines
 
 -- the answer is what is wanted, or that it cannot stand; want of memory is free
 abbrev pub IsReading : {T V : Type 0} → (T → V) → Option V → Result T Fault → Type 0
 IsReading view wanted result =
-    MatchResult result (λ found. wanted ≡ Some (view found)) (λ fault. (fault ≡ NoMemory) ⊎ ((wanted ≡ None) × (fault ≡ CannotStand)))
+    MatchResult result (λ found. wanted ≡ Some (view found)) (λ fault. (fault ≡ NoMemory) ⊎ ((wanted ≡ None)
+    × (fault ≡ CannotStand)))
 
 abbrev pub wire_line_of : WireLine → lines.WireLine
 wire_line_of line =

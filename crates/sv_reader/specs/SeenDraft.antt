@@ -1,12 +1,17 @@
--- How a module that is being read is seen.
+-- How a module that is being read is seen, and what is wanted next of it.
+use Rattle.std.specs.Prelude.{◌≡◌, Bool, true, false, Result, MatchResult}
 use Rattle.sv_tree.specs.Module.{Module}
+use Rattle.sv_lines.specs.State as state
+use Rattle.sv_lines.specs.Step as step
+use Rattle.sv_lines.specs.Step.{port_of}
 use Rattle.sv_reader.specs.declared.draft.Draft.{Draft}
-use Rattle.sv_reader.specs.declared.place.Place.{Place}
-use Rattle.sv_reader.specs.declared.place.Place.TheVariants as place
-use Rattle.sv_reader.specs.declared.place.Reached.{Reached}
-use Rattle.sv_reader.specs.declared.place.Reached.TheVariants as reached
-use Rattle.sv_reader.specs.State as state
-use Rattle.sv_reader.specs.Step as step
+use Rattle.sv_reader.specs.declared.fault.Fault.{Fault}
+use Rattle.sv_reader.specs.declared.fault.Fault.TheVariants.{CannotStand}
+use Rattle.sv_reader.specs.declared.wanted.Wanted.{Wanted}
+use Rattle.sv_reader.specs.declared.wanted.Wanted.TheVariants as wanted
+use Rattle.sv_reader.specs.declared.wanted.Reached.{Reached}
+use Rattle.sv_reader.specs.declared.wanted.Reached.TheVariants as reached
+use Rattle.sv_reader.specs.Seen.{wire_line_of}
 
 abbrev pub draft_of : Draft → Module
 draft_of draft =
@@ -19,22 +24,27 @@ draft_of draft =
       nexts = draft.nexts.items;
     }
 
-abbrev pub place_of : Place → state.Place
-place_of place.Clock = state.clock_wanted
-place_of place.Reset = state.reset_wanted
-place_of place.Port = state.port_wanted
-place_of place.Closing = state.closing_wanted
-place_of (place.Valid port) = state.valid_wanted port
-place_of (place.Ack port) = state.ack_wanted port
-place_of place.Item = state.item_wanted
-place_of (place.Assign width) = state.assign_wanted width
-place_of (place.Second value) = state.second_wanted value
-place_of place.Test = state.test_wanted
-place_of (place.Resets done) = state.resets_wanted done
-place_of place.Nexts = state.nexts_wanted
-place_of place.End = state.end_wanted
-place_of place.Last = state.last_wanted
+abbrev pub wanted_of : Wanted → state.Wanted
+wanted_of wanted.Clock = state.clock_wanted
+wanted_of wanted.Reset = state.reset_wanted
+wanted_of wanted.Port = state.port_wanted
+wanted_of wanted.Closing = state.closing_wanted
+wanted_of (wanted.Valid line) = state.valid_wanted (port_of (wire_line_of line))
+wanted_of (wanted.Ack line) = state.ack_wanted (port_of (wire_line_of line))
+wanted_of wanted.Item = state.item_wanted
+wanted_of (wanted.Assign width) = state.assign_wanted width
+wanted_of (wanted.Second value) = state.second_wanted value
+wanted_of wanted.Test = state.test_wanted
+wanted_of (wanted.Resets done) = state.resets_wanted done
+wanted_of wanted.Nexts = state.nexts_wanted
+wanted_of wanted.End = state.end_wanted
+wanted_of wanted.Last = state.last_wanted
 
-abbrev pub reached_of : Reached → step.Reached
-reached_of (reached.Onward draft next) = step.onward (draft_of draft) (place_of next)
-reached_of (reached.Finished draft) = step.finished (draft_of draft)
+-- with the module behind the line
+abbrev pub reached_of : Draft → Reached → step.Reached
+reached_of draft (reached.Onward next) = step.onward (draft_of draft) (wanted_of next)
+reached_of draft reached.Finished = step.finished (draft_of draft)
+
+-- the answer to a line that is always the same
+abbrev pub IsFixed : {T : Type 0} → (is_same : Bool) → Result T Fault → Type 0
+IsFixed is_same result = MatchResult result (λ _. is_same ≡ true) (λ fault. (is_same ≡ false) × (fault ≡ CannotStand))

@@ -1,19 +1,30 @@
 -- How the reading of a text is seen.
-use Rattle.std.specs.Prelude.{◌≡◌, ℕ, ◌==◌, not, Bool, true, List}
-use Rattle.std.specs.List.{list_all}
+use Rattle.std.specs.Prelude.{◌≡◌, ℕ, ◌==◌, not, Bool, true, false, List, map, bytes_eq, Option, Some, None}
+use Rattle.std.specs.List.{list_all, list_any}
+use Rattle.sv_tree.specs.Module.{Module}
+use Rattle.sv_tree.specs.WellFormed.{IsWellFormed}
 use Rattle.sv_reader.specs.declared.error.SvErr.{SvErr}
 use Rattle.sv_reader.specs.declared.error.SvErr.TheVariants.{NotEmitted, NoMemory}
 use Rattle.sv_reader.specs.declared.fault.Fault.{Fault}
 use Rattle.sv_reader.specs.declared.fault.Fault.TheVariants as fault
-use Rattle.sv_reader.specs.declared.state.State.{State}
-use Rattle.sv_reader.specs.declared.state.State.TheVariants as read
-use Rattle.sv_reader.specs.State as state
-use Rattle.sv_reader.specs.SeenDraft.{draft_of, place_of}
-use Rattle.sv_reader.specs.Refused.{IsNotEmitted}
+use Rattle.sv_reader.specs.declared.draft.Draft.{Draft}
+use Rattle.sv_reader.specs.declared.reading.Reading.{Reading}
+use Rattle.sv_reader.specs.declared.wanted.Wanted.{Wanted}
+use Rattle.sv_lines.specs.State as state
+use Rattle.sv_reader.specs.SeenDraft.{draft_of, wanted_of}
+use Rattle.sv_lines.specs.Refused.{IsNotEmitted}
 
-abbrev pub state_of : State → state.State
-state_of (read.Between whole) = state.between whole
-state_of (read.Inside whole draft place) = state.inside whole (draft_of draft) (place_of place)
+abbrev pub state_by : List Module → Wanted → Option Draft → state.State
+state_by whole wanted None = state.between whole
+state_by whole wanted (Some draft) = state.inside whole (draft_of draft) (wanted_of wanted)
+
+abbrev pub state_of : Reading → state.State
+state_of reading = state_by reading.whole reading.wanted reading.begun
+
+-- a module that may follow those that are whole
+pub record IsNext (whole : List Module) (draft : Draft) : Type 0 where
+  pub well_formed : IsWellFormed (draft_of draft)
+  pub fresh : list_any (bytes_eq draft.proc) (map (λ (tree : Module). tree.proc) whole) ≡ false
 
 -- with no line feed
 abbrev pub is_quiet_byte : ℕ → Bool

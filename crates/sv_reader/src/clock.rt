@@ -1,6 +1,6 @@
 //! The lines of the clock's block.
 ghost use Rattle.std.specs.Prelude.{◌≡◌, MatchOption, None, Some};
-ghost use Rattle.sv_reader.specs.Step.{after_register, last_literal, written};
+ghost use Rattle.sv_lines.specs.Step.{after_register, last_literal, written};
 
 use crate::operands::literal_of;
 use crate::pieces::{after, number_at, operand_run};

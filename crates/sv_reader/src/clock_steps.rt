@@ -1,6 +1,6 @@
 //! What the lines of the clock's block come to.
 ghost use Rattle.std.specs.Prelude.{◌≡◌, length, slice_get};
-ghost use Rattle.sv_reader.specs.Step.{next_value, nexts_step, resets_step};
+ghost use Rattle.sv_lines.specs.Step.{next_value, nexts_step, resets_step};
 ghost use Rattle.sv_reader.specs.Seen.{IsReading};
 ghost use Rattle.sv_reader.specs.SeenDraft.{draft_of, reached_of};
 
@@ -9,14 +9,14 @@ use crate::draft::Draft;
 use crate::fault::Fault;
 use crate::header::fixed;
 use crate::operands::last_operand;
-use crate::place::{Place, Reached};
+use crate::wanted::{Reached, Wanted};
 use crate::widths::operand_width;
 use std::alloc::Global;
 use sv_tree::{SvOperand, SvReg};
 
 /// The reset of the next register, or the line behind the resets.
-pub fn resets_step(draft: Draft, done: usize, line: &[u8]) -> Result<Reached, Fault>
-    ensures { IsReading reached_of (resets_step (draft_of draft) done (slice_get draft.regs done) line.now) result }
+pub fn resets_step<'a>(draft: &mut Draft, done: usize, line: &'a [u8]) -> Result<Reached<'a>, Fault>
+    ensures { IsReading (reached_of draft.new) (resets_step (draft_of draft.old) done (slice_get draft.old.regs done) line.now) result }
 {
     match draft.regs.get(done) {
         Some(reg) => {
@@ -27,12 +27,16 @@ pub fn resets_step(draft: Draft, done: usize, line: &[u8]) -> Result<Reached, Fa
                 return Err(Fault::CannotStand);
             };
             if number.width() == reg.width {
-                Ok(Reached::Onward(draft.with_reset(done, number), Place::Resets(done + 1)))
+                draft.set_reset(done, number);
+                Ok(Reached::Onward(Wanted::Resets(done + 1)))
             } else {
                 Err(Fault::CannotStand)
             }
         }
-        None => fixed(draft, Place::Nexts, line, b"    end else begin"),
+        None => {
+            fixed(line, b"    end else begin")?;
+            Ok(Reached::Onward(Wanted::Nexts))
+        }
     }
 }
 
@@ -53,17 +57,25 @@ fn next_value(alloc: Global, draft: &Draft, reg: &SvReg, line: &[u8]) -> Option<
 }
 
 /// The next value of the next register, or the line behind these.
-pub fn nexts_step(alloc: Global, draft: Draft, line: &[u8]) -> Result<Reached, Fault>
-    ensures { IsReading reached_of (nexts_step (draft_of draft) (slice_get draft.regs (length draft.nexts.items)) line.now) result }
+pub fn nexts_step<'a>(
+    alloc: Global,
+    draft: &mut Draft,
+    line: &'a [u8],
+) -> Result<Reached<'a>, Fault>
+    ensures { IsReading (reached_of draft.new) (nexts_step (draft_of draft.old) (slice_get draft.old.regs (length draft.old.nexts.items)) line.now) result }
 {
-    match draft.regs.get(draft.nexts.len()) {
-        Some(reg) => match next_value(alloc, &draft, reg, line) {
-            Some(next) => match draft.with_next(next) {
-                Ok(draft) => Ok(Reached::Onward(draft, Place::Nexts)),
+    let read: &Draft = draft;
+    match read.regs.get(read.nexts.len()) {
+        Some(reg) => match next_value(alloc, read, reg, line) {
+            Some(next) => match draft.add_next(next) {
+                Ok(()) => Ok(Reached::Onward(Wanted::Nexts)),
                 Err(fault) => Err(fault),
             },
             None => Err(Fault::CannotStand),
         },
-        None => fixed(draft, Place::End, line, b"    end"),
+        None => {
+            fixed(line, b"    end")?;
+            Ok(Reached::Onward(Wanted::End))
+        }
     }
 }

@@ -1,24 +1,29 @@
 //! What the declarations of registers and nets come to.
 ghost use Rattle.std.specs.Prelude.{◌≤◌};
 ghost use Rattle.anvil_bits.specs.Number.{widest};
-ghost use Rattle.sv_reader.specs.Step.{declared_by, declared_step, register_by};
+ghost use Rattle.sv_lines.specs.Step.{declared_by, declared_step, register_by};
 ghost use Rattle.sv_reader.specs.Seen.{IsReading, declared_of, label_of};
 ghost use Rattle.sv_reader.specs.SeenDraft.{draft_of, reached_of};
 
 use crate::draft::Draft;
 use crate::fault::Fault;
-use crate::header::has_room;
 use crate::lines::{Declared, Label};
 use crate::output_steps::is_empty;
-use crate::place::{Place, Reached};
+use crate::tables::has_room;
+use crate::wanted::{Reached, Wanted};
 use anvil_bits::Bits;
 use sv_tree::{SvReg, SvRegName};
 
 // A register of a name that none has, before the nets. Its reset is read later.
-fn register_by(draft: Draft, name: SvRegName, width: u8, may_stand: bool) -> Result<Reached, Fault>
+fn register_by<'a>(
+    draft: &mut Draft,
+    name: SvRegName,
+    width: u8,
+    may_stand: bool,
+) -> Result<Reached<'a>, Fault>
     requires least { 1 ≤ width }
     requires most { width ≤ widest }
-    ensures { IsReading reached_of (register_by (draft_of draft) name width may_stand) result }
+    ensures { IsReading (reached_of draft.new) (register_by (draft_of draft.old) name width may_stand) result }
 {
     if may_stand
         && is_empty(draft.nets.nets())
@@ -26,8 +31,8 @@ fn register_by(draft: Draft, name: SvRegName, width: u8, may_stand: bool) -> Res
         && draft.regs.is_fresh(&name)
     {
         let reset = Bits::new(width, 0);
-        match draft.with_register(SvReg { name, width, reset }) {
-            Ok(draft) => Ok(Reached::Onward(draft, Place::Item)),
+        match draft.add_register(SvReg { name, width, reset }) {
+            Ok(()) => Ok(Reached::Onward(Wanted::Item)),
             Err(fault) => Err(fault),
         }
     } else {
@@ -35,10 +40,10 @@ fn register_by(draft: Draft, name: SvRegName, width: u8, may_stand: bool) -> Res
     }
 }
 
-fn declared_by(draft: Draft, width: u8, label: Label) -> Result<Reached, Fault>
+fn declared_by<'a>(draft: &mut Draft, width: u8, label: Label) -> Result<Reached<'a>, Fault>
     requires least { 1 ≤ width }
     requires most { width ≤ widest }
-    ensures { IsReading reached_of (declared_by (draft_of draft) width (label_of label)) result }
+    ensures { IsReading (reached_of draft.new) (declared_by (draft_of draft.old) width (label_of label)) result }
 {
     let states = draft.regs.states();
     match label {
@@ -51,7 +56,7 @@ fn declared_by(draft: Draft, width: u8, label: Label) -> Result<Reached, Fault>
         Label::Net(number) => {
             let count = draft.nets.nets().len();
             if number == count as u64 && has_room(count) {
-                Ok(Reached::Onward(draft, Place::Assign(width)))
+                Ok(Reached::Onward(Wanted::Assign(width)))
             } else {
                 Err(Fault::CannotStand)
             }
@@ -60,10 +65,10 @@ fn declared_by(draft: Draft, width: u8, label: Label) -> Result<Reached, Fault>
 }
 
 /// The declaration of a register or a net, which stands before the outputs.
-pub fn declared_step(draft: Draft, declared: Declared) -> Result<Reached, Fault>
+pub fn declared_step<'a>(draft: &mut Draft, declared: Declared) -> Result<Reached<'a>, Fault>
     requires least { 1 ≤ declared.width }
     requires most { declared.width ≤ widest }
-    ensures { IsReading reached_of (declared_step (draft_of draft) (declared_of declared)) result }
+    ensures { IsReading (reached_of draft.new) (declared_step (draft_of draft.old) (declared_of declared)) result }
 {
     if is_empty(draft.outs.as_slice()) {
         declared_by(draft, declared.width, declared.label)

@@ -1,8 +1,9 @@
 //! The module that is being read, as far as it has been read.
 ghost use Rattle.std.specs.Prelude.{◌≡◌, ◌<◌, Some, length, slice_get, true, MatchResult};
+ghost use Rattle.sv_tree.specs.Limits.{too_many};
 ghost use Rattle.sv_tree.specs.WellFormed.{IsWellFormed};
-ghost use Rattle.sv_reader.specs.Step.{has_room, is_fresh, may_add};
-ghost use Rattle.sv_reader.specs.State.{new_module, with_net, with_next, with_out, with_port, with_register, with_reset, reset_to};
+ghost use Rattle.sv_lines.specs.Step.{has_room, is_fresh, may_add};
+ghost use Rattle.sv_lines.specs.State.{new_module, with_net, with_next, with_out, with_port, with_register, with_reset, reset_to};
 ghost use Rattle.sv_reader.specs.SeenDraft.{draft_of};
 ghost use Rattle.sv_reader.specs.declared.fault.Fault.TheVariants.{NoMemory};
 
@@ -63,156 +64,51 @@ impl Draft {
         )
     }
 
-    /// With one port more.
-    pub fn with_port(self, port: SvPort) -> Result<Draft, Fault>
-        requires { may_add (draft_of self) port ≡ true }
-        ensures { MatchResult result (λ draft. draft_of draft ≡ with_port (draft_of self) port) (λ fault. fault ≡ NoMemory) }
+    /// Puts a port after the others.
+    pub fn add_port(&mut self, port: SvPort) -> Result<(), Fault>
+        requires { may_add (draft_of self.old) port ≡ true }
+        ensures { MatchResult result (λ _. draft_of self.new ≡ with_port (draft_of self.old) port) (λ fault. fault ≡ NoMemory) }
     {
-        let Draft {
-            proc,
-            ports,
-            regs,
-            nets,
-            outs,
-            nexts,
-        } = self;
-        match ports.with(port) {
-            Ok(ports) => Ok(Draft {
-                proc,
-                ports,
-                regs,
-                nets,
-                outs,
-                nexts,
-            }),
-            Err(fault) => Err(fault),
-        }
+        self.ports.add(port)
     }
 
-    /// With one register more.
-    pub fn with_register(self, reg: SvReg) -> Result<Draft, Fault>
-        requires fresh { is_fresh (draft_of self) reg.name ≡ true }
-        requires room { has_room (length self.regs) ≡ true }
-        ensures { MatchResult result (λ draft. draft_of draft ≡ with_register (draft_of self) reg) (λ fault. fault ≡ NoMemory) }
+    /// Puts a register after the others.
+    pub fn add_register(&mut self, reg: SvReg) -> Result<(), Fault>
+        requires fresh { is_fresh (draft_of self.old) reg.name ≡ true }
+        requires room { has_room (length self.old.regs) ≡ true }
+        ensures { MatchResult result (λ _. draft_of self.new ≡ with_register (draft_of self.old) reg) (λ fault. fault ≡ NoMemory) }
     {
-        let Draft {
-            proc,
-            ports,
-            regs,
-            nets,
-            outs,
-            nexts,
-        } = self;
-        match regs.with(reg) {
-            Ok(regs) => Ok(Draft {
-                proc,
-                ports,
-                regs,
-                nets,
-                outs,
-                nexts,
-            }),
-            Err(fault) => Err(fault),
-        }
+        self.regs.add(reg)
     }
 
-    /// With one net more.
-    pub fn with_net(self, width: u8, op: SvOp) -> Result<Draft, Fault>
-        requires room { has_room (length self.nets) ≡ true }
-        ensures { MatchResult result (λ draft. draft_of draft ≡ with_net (draft_of self) record { width = width; op = op }) (λ fault. fault ≡ NoMemory) }
+    /// Puts a net after the others.
+    pub fn add_net(&mut self, width: u8, op: SvOp) -> Result<(), Fault>
+        requires { has_room (length self.old.nets) ≡ true }
+        ensures { MatchResult result (λ _. draft_of self.new ≡ with_net (draft_of self.old) record { width = width; op = op }) (λ fault. fault ≡ NoMemory) }
     {
-        let Draft {
-            proc,
-            ports,
-            regs,
-            nets,
-            outs,
-            nexts,
-        } = self;
-        match nets.with(width, op) {
-            Ok(nets) => Ok(Draft {
-                proc,
-                ports,
-                regs,
-                nets,
-                outs,
-                nexts,
-            }),
-            Err(fault) => Err(fault),
-        }
+        self.nets.add(width, op)
     }
 
-    /// With one output more.
-    pub fn with_out(self, out: SvOut) -> Result<Draft, Fault>
-        ensures { MatchResult result (λ draft. draft_of draft ≡ with_out (draft_of self) out) (λ fault. fault ≡ NoMemory) }
+    /// Puts an output after the others.
+    pub fn add_out(&mut self, out: SvOut) -> Result<(), Fault>
+        ensures { MatchResult result (λ _. draft_of self.new ≡ with_out (draft_of self.old) out) (λ fault. fault ≡ NoMemory) }
     {
-        let Draft {
-            proc,
-            ports,
-            regs,
-            nets,
-            mut outs,
-            nexts,
-        } = self;
-        match push(&mut outs, out) {
-            Ok(()) => Ok(Draft {
-                proc,
-                ports,
-                regs,
-                nets,
-                outs,
-                nexts,
-            }),
-            Err(fault) => Err(fault),
-        }
+        push(&mut self.outs, out)
     }
 
-    /// With one next value more.
-    pub fn with_next(self, next: SvOperand) -> Result<Draft, Fault>
-        ensures { MatchResult result (λ draft. draft_of draft ≡ with_next (draft_of self) next) (λ fault. fault ≡ NoMemory) }
+    /// Puts a next value after the others.
+    pub fn add_next(&mut self, next: SvOperand) -> Result<(), Fault>
+        ensures { MatchResult result (λ _. draft_of self.new ≡ with_next (draft_of self.old) next) (λ fault. fault ≡ NoMemory) }
     {
-        let Draft {
-            proc,
-            ports,
-            regs,
-            nets,
-            outs,
-            mut nexts,
-        } = self;
-        match push(&mut nexts, next) {
-            Ok(()) => Ok(Draft {
-                proc,
-                ports,
-                regs,
-                nets,
-                outs,
-                nexts,
-            }),
-            Err(fault) => Err(fault),
-        }
+        push(&mut self.nexts, next)
     }
 
-    /// With another reset of the register at a place.
-    pub fn with_reset(self, place: usize, reset: Bits) -> Draft
-        requires within { place < length self.regs }
-        ensures { (reg : SvReg) → slice_get self.regs place ≡ Some reg → draft_of result ≡ with_reset (draft_of self) place (reset_to reg reset) }
+    /// Gives the register of this index its reset.
+    pub fn set_reset(&mut self, index: usize, reset: Bits)
+        requires { index < length self.old.regs }
+        ensures few { index < too_many }
+        ensures reset { (reg : SvReg) → slice_get self.old.regs index ≡ Some reg → draft_of self.new ≡ with_reset (draft_of self.old) index (reset_to reg reset) }
     {
-        let Draft {
-            proc,
-            ports,
-            regs,
-            nets,
-            outs,
-            nexts,
-        } = self;
-        let regs = regs.with_reset(place, reset);
-        Draft {
-            proc,
-            ports,
-            regs,
-            nets,
-            outs,
-            nexts,
-        }
+        self.regs.set_reset(index, reset);
     }
 }

@@ -1,52 +1,49 @@
 //! The lines of a module's header.
-ghost use Rattle.std.specs.Prelude.{◌≡◌, ◌+◌, ◌<◌, ◌^◌, ◌&&◌, not, false, MatchOption};
+ghost use Rattle.std.specs.Prelude.{◌≡◌, ◌+◌, ◌<◌, ◌^◌, ◌&&◌, not, false, true, bytes_eq, MatchOption, MatchResult};
 ghost use Rattle.sv_tree.specs.WellFormed.{is_port_name};
-ghost use Rattle.sv_reader.specs.Step.{ack_step, added, fixed, has_room, header_place, is_data, is_wire_of, may_end, port_of, port_step, reset_step, valid_step};
+ghost use Rattle.sv_lines.specs.declared.wire.Wire.TheVariants.{Ack};
+ghost use Rattle.sv_lines.specs.State.{with_port};
+ghost use Rattle.sv_lines.specs.Step.{ack_step, header_wanted, is_data, is_wire_of, may_add, may_end, port_of, port_step, reset_step, valid_step};
 ghost use Rattle.sv_reader.specs.Seen.{IsReading, wire_line_of};
-ghost use Rattle.sv_reader.specs.SeenDraft.{draft_of, place_of, reached_of};
+ghost use Rattle.sv_reader.specs.SeenDraft.{IsFixed, draft_of, reached_of, wanted_of};
+ghost use Rattle.sv_reader.specs.declared.fault.Fault.TheVariants.{NoMemory};
 
 use crate::draft::Draft;
 use crate::fault::Fault;
 use crate::lines::{WireLine, comma_of, good_name, wire_line};
 use crate::pieces::after;
-use crate::place::{Place, Reached};
-use crate::wire::Wire;
+use crate::tables::has_room;
+use crate::wanted::{Reached, Wanted};
 use std::alloc::Global;
+use sv_lines::Wire;
 use sv_tree::SvPort;
 
 /// A line that is always the same.
-pub fn fixed(draft: Draft, next: Place, line: &[u8], wanted: &[u8]) -> Result<Reached, Fault>
-    ensures { IsReading reached_of (fixed wanted.now (draft_of draft) (place_of next) line.now) result }
+pub fn fixed(line: &[u8], wanted: &[u8]) -> Result<(), Fault>
+    ensures { IsFixed (bytes_eq line.now wanted.now) result }
 {
     if line == wanted {
-        Ok(Reached::Onward(draft, next))
+        Ok(())
     } else {
         Err(Fault::CannotStand)
     }
 }
 
-/// Whether one item more leaves room.
-pub fn has_room(count: usize) -> bool
-    ensures { result ≡ has_room count }
+fn header_wanted<'a>(comma: bool) -> Wanted<'a>
+    ensures { wanted_of result ≡ header_wanted comma }
 {
-    count < 0xffff_ffff
-}
-
-fn header_place(comma: bool) -> Place
-    ensures { place_of result ≡ header_place comma }
-{
-    if comma { Place::Port } else { Place::Closing }
+    if comma { Wanted::Port } else { Wanted::Closing }
 }
 
 /// The line of the reset.
-pub fn reset_step(draft: Draft, line: &[u8]) -> Result<Reached, Fault>
-    ensures { IsReading reached_of (reset_step (draft_of draft) line.now) result }
+pub fn reset_step<'a>(draft: &Draft, line: &'a [u8]) -> Result<Reached<'a>, Fault>
+    ensures { IsReading (reached_of draft.now) (reset_step (draft_of draft.now) line.now) result }
 {
     let Some(rest) = after(line, b"  input logic rst_ni") else {
         return Err(Fault::CannotStand);
     };
     match comma_of(rest) {
-        Some(comma) => Ok(Reached::Onward(draft, header_place(comma))),
+        Some(comma) => Ok(Reached::Onward(header_wanted(comma))),
         None => Err(Fault::CannotStand),
     }
 }
@@ -57,14 +54,15 @@ fn is_data(line: &WireLine) -> bool
     line.wire == Wire::Data && line.comma
 }
 
-fn is_wire_of(port: &SvPort, wire: Wire, comes_in: bool, line: &WireLine) -> bool
-    ensures { result ≡ is_wire_of port.now wire comes_in (wire_line_of line.now) }
+// A line for this wire of the port that another line begins, of one bit.
+fn is_wire_of(port: &WireLine, wire: Wire, comes_in: bool, line: &WireLine) -> bool
+    ensures { result ≡ is_wire_of (port_of (wire_line_of port.now)) wire comes_in (wire_line_of line.now) }
 {
     line.wire == wire
         && line.comes_in == comes_in
         && line.width == 1
-        && line.endpoint == port.endpoint.bytes()
-        && line.message == port.message.bytes()
+        && line.endpoint == port.endpoint
+        && line.message == port.message
 }
 
 fn port_of(alloc: Global, line: &WireLine) -> Option<SvPort>
@@ -84,32 +82,43 @@ fn port_of(alloc: Global, line: &WireLine) -> Option<SvPort>
     })
 }
 
+// Whether a port with these names may follow the others.
+fn may_add(alloc: Global, draft: &Draft, line: &WireLine) -> bool
+    ensures { result ≡ may_add (draft_of draft.now) (port_of (wire_line_of line.now)) }
+{
+    match port_of(alloc, line) {
+        Some(port) => draft.ports.may_add(&port),
+        None => false,
+    }
+}
+
 /// The `data` line of a port.
-pub fn port_step(alloc: Global, draft: Draft, line: &[u8]) -> Result<Reached, Fault>
-    ensures { IsReading reached_of (port_step (draft_of draft) line.now) result }
+pub fn port_step<'a>(alloc: Global, draft: &Draft, line: &'a [u8]) -> Result<Reached<'a>, Fault>
+    ensures { IsReading (reached_of draft.now) (port_step (draft_of draft.now) line.now) result }
 {
     let Some(parts) = wire_line(line) else {
         return Err(Fault::CannotStand);
     };
-    let Some(port) = port_of(alloc, &parts) else {
-        return Err(Fault::CannotStand);
-    };
-    if is_data(&parts) && draft.ports.may_add(&port) {
-        Ok(Reached::Onward(draft, Place::Valid(port)))
+    if is_data(&parts) && may_add(alloc, draft, &parts) {
+        Ok(Reached::Onward(Wanted::Valid(parts)))
     } else {
         Err(Fault::CannotStand)
     }
 }
 
 /// The `valid` line of a port.
-pub fn valid_step(draft: Draft, port: SvPort, line: &[u8]) -> Result<Reached, Fault>
-    ensures { IsReading reached_of (valid_step (draft_of draft) port line.now) result }
+pub fn valid_step<'a>(
+    draft: &Draft,
+    port: &WireLine<'a>,
+    line: &'a [u8],
+) -> Result<Reached<'a>, Fault>
+    ensures { IsReading (reached_of draft.now) (valid_step (draft_of draft.now) (port_of (wire_line_of port.now)) line.now) result }
 {
     let Some(parts) = wire_line(line) else {
         return Err(Fault::CannotStand);
     };
-    if is_wire_of(&port, Wire::Valid, port.received, &parts) && parts.comma {
-        Ok(Reached::Onward(draft, Place::Ack(port)))
+    if is_wire_of(port, Wire::Valid, port.comes_in, &parts) && parts.comma {
+        Ok(Reached::Onward(Wanted::Ack(*port)))
     } else {
         Err(Fault::CannotStand)
     }
@@ -123,35 +132,43 @@ fn may_end(count: usize, comma: bool) -> bool
 }
 
 // The module with the port.
-fn added(draft: Draft, port: SvPort, comma: bool) -> Result<Reached, Fault>
-    ensures { IsReading reached_of (added (draft_of draft) port comma) result }
+fn add_port(alloc: Global, draft: &mut Draft, port: &WireLine) -> Result<(), Fault>
+    requires { may_add (draft_of draft.old) (port_of (wire_line_of port.now)) ≡ true }
+    ensures { MatchResult result
+        (λ _. draft_of draft.new ≡ with_port (draft_of draft.old) (port_of (wire_line_of port.now)))
+        (λ fault. fault ≡ NoMemory) }
 {
-    if draft.ports.may_add(&port) {
-        match draft.with_port(port) {
-            Ok(draft) => Ok(Reached::Onward(draft, header_place(comma))),
-            Err(fault) => Err(fault),
-        }
-    } else {
-        Err(Fault::CannotStand)
+    match port_of(alloc, port) {
+        Some(port) => draft.add_port(port),
+        None => unreachable!(),
     }
 }
 
-fn is_ack(count: usize, port: &SvPort, line: &WireLine) -> bool
+fn is_ack(count: usize, port: &WireLine, line: &WireLine) -> bool
     requires { count < 2 ^ 63 }
-    ensures { result ≡ (is_wire_of port.now Wire.Ack (not port.now.received) (wire_line_of line.now) && may_end (count + 1) line.now.comma) }
+    ensures { result ≡ (is_wire_of (port_of (wire_line_of port.now)) Ack (not port.now.comes_in) (wire_line_of line.now) && may_end (count + 1) line.now.comma) }
 {
-    is_wire_of(port, Wire::Ack, !port.received, line) && may_end(count + 1, line.comma)
+    is_wire_of(port, Wire::Ack, !port.comes_in, line) && may_end(count + 1, line.comma)
 }
 
-/// The `ack` line of a port.
-pub fn ack_step(draft: Draft, port: SvPort, line: &[u8]) -> Result<Reached, Fault>
-    ensures { IsReading reached_of (ack_step (draft_of draft) port line.now) result }
+/// The `ack` line of a port, of which the `data` line said that it may stand.
+pub fn ack_step<'a>(
+    alloc: Global,
+    draft: &mut Draft,
+    port: &WireLine<'a>,
+    line: &'a [u8],
+) -> Result<Reached<'a>, Fault>
+    requires { may_add (draft_of draft.old) (port_of (wire_line_of port.now)) ≡ true }
+    ensures { IsReading (reached_of draft.new) (ack_step (draft_of draft.old) (port_of (wire_line_of port.now)) line.now) result }
 {
     let Some(parts) = wire_line(line) else {
         return Err(Fault::CannotStand);
     };
-    if is_ack(draft.ports.ports().len(), &port, &parts) {
-        added(draft, port, parts.comma)
+    if is_ack(draft.ports.ports().len(), port, &parts) {
+        match add_port(alloc, draft, port) {
+            Ok(()) => Ok(Reached::Onward(header_wanted(parts.comma))),
+            Err(fault) => Err(fault),
+        }
     } else {
         Err(Fault::CannotStand)
     }

@@ -1,15 +1,15 @@
 //! The lines of registers, nets and outputs.
 ghost use Rattle.std.specs.Prelude.{◌≡◌, MatchOption, None, Some};
-ghost use Rattle.sv_reader.specs.Lines.{wire_word};
-ghost use Rattle.sv_reader.specs.Step.{assigned, given};
+ghost use Rattle.sv_lines.specs.Lines.{wire_word};
+ghost use Rattle.sv_lines.specs.Step.{assigned, given};
 ghost use Rattle.sv_reader.specs.SeenDraft.{draft_of};
 
 use crate::draft::Draft;
 use crate::operands::last_operand;
 use crate::pieces::after;
 use crate::widths::operand_width;
-use crate::wire::Wire;
 use std::alloc::Global;
+use sv_lines::Wire;
 use sv_tree::{SvOperand, SvPort};
 
 fn wire_word(wire: Wire) -> &'static [u8]

@@ -12,24 +12,20 @@ mod header;
 mod item_steps;
 mod items;
 mod key;
-mod laws;
 mod lines;
 mod modules;
 mod nets;
 mod operands;
 mod output_steps;
 mod pieces;
-mod place;
 mod reader;
-mod state;
+mod reading;
 mod step;
 mod tables;
-#[cfg(test)]
-mod tests;
+mod wanted;
 mod widths;
-mod wire;
 
 pub use error::SvErr;
-pub use laws::has_one_list;
 pub use reader::read_modules;
+pub use sv_lines::has_one_list;
 pub use sv_tree::SvModule;

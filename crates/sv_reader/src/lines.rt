@@ -2,13 +2,13 @@
 ghost use Rattle.std.specs.Prelude.{◌≡◌, ◌≤◌, false, true, IfSome, List, MatchOption, None, Some};
 ghost use Rattle.anvil_bits.specs.Number.{widest};
 ghost use Rattle.sv_tree.specs.WellFormed.{is_name};
-ghost use Rattle.sv_reader.specs.Lines.{comma_of, declaration, direction_at, label_by, label_of, labelled, named_wire, numbered_label, opening, source_label, wire_end, wire_line, wire_of};
+ghost use Rattle.sv_lines.specs.Lines.{comma_of, declaration, direction_at, label_by, label_of, labelled, named_wire, numbered_label, opening, source_label, wire_end, wire_line, wire_of};
 ghost use Rattle.sv_reader.specs.Seen as seen;
 
 use crate::pieces::{after, cut, name_run, number_at, range_at};
-use crate::wire::Wire;
 use anvil_lexer::{LONGEST_NAME, Name, is_good_name};
 use std::alloc::Global;
+use sv_lines::Wire;
 
 /// A line of the header.
 #[derive(Clone, Copy)]

@@ -56,21 +56,22 @@ impl ModuleTable {
         self.modules
     }
 
-    /// With one module more, of a name that none has.
-    pub fn with(self, whole: SvModule) -> Result<ModuleTable, Fault>
-        requires fresh { list_any (bytes_eq whole.proc) (map (λ (tree : Module). tree.proc) self) ≡ false }
-        ensures { MatchResult result (λ table. table ≡ self ++ whole ∷ []) (λ fault. fault ≡ NoMemory) }
+    /// Puts a module after the others, of a name that none has.
+    pub fn add(&mut self, whole: SvModule) -> Result<(), Fault>
+        requires { list_any (bytes_eq whole.proc) (map (λ (tree : Module). tree.proc) self.old) ≡ false }
+        ensures { MatchResult result (λ _. self.new ≡ self.old ++ whole ∷ []) (λ fault. fault ≡ NoMemory) }
     {
-        let ModuleTable {
-            mut modules,
-            mut names,
-        } = self;
-        match names.insert(whole.proc().copy()) {
-            Ok(_) => match push(&mut modules, whole) {
-                Ok(()) => Ok(ModuleTable { modules, names }),
-                Err(fault) => Err(fault),
+        let count = self.modules.len();
+        let name = whole.proc().copy();
+        match push(&mut self.modules, whole) {
+            Ok(()) => match self.names.insert(name) {
+                Ok(_) => Ok(()),
+                Err(_) => {
+                    self.modules.truncate(count);
+                    Err(Fault::NoMemory)
+                }
             },
-            Err(_) => Err(Fault::NoMemory),
+            Err(fault) => Err(fault),
         }
     }
 }

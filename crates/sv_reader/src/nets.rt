@@ -52,15 +52,11 @@ impl NetList {
         self.nets
     }
 
-    /// With one net more.
-    pub fn with(self, width: u8, op: SvOp) -> Result<NetList, Fault>
-        requires room { nat_lt (length self + 1) too_many ≡ true }
-        ensures { MatchResult result (λ list. list ≡ self ++ record { width = width; op = op } ∷ []) (λ fault. fault ≡ NoMemory) }
+    /// Puts a net after the others.
+    pub fn add(&mut self, width: u8, op: SvOp) -> Result<(), Fault>
+        requires { nat_lt (length self.old + 1) too_many ≡ true }
+        ensures { MatchResult result (λ _. self.new ≡ self.old ++ record { width = width; op = op } ∷ []) (λ fault. fault ≡ NoMemory) }
     {
-        let mut nets = self.nets;
-        match push(&mut nets, SvNet { width, op }) {
-            Ok(()) => Ok(NetList { nets }),
-            Err(fault) => Err(fault),
-        }
+        push(&mut self.nets, SvNet { width, op })
     }
 }

@@ -1,8 +1,8 @@
 //! Operands and operators of a module that is read so far: what is named must stand in it.
 ghost use Rattle.std.specs.Prelude.{◌≡◌, ◌≤◌, ◌<◌, ◌^◌, MatchOption, None, Some, nat_lt};
 ghost use Rattle.sv_tree.specs.declared.tree.SvRegName.{SvRegName};
-ghost use Rattle.sv_reader.specs.Pieces.{cut};
-ghost use Rattle.sv_reader.specs.Operands.{chosen, inverted, joined, label_ref, last_operand, literal_by, literal_of, named_by, op_by, op_of, op_with_first, operand_at, operand_of, operated, operator_at, port_wire, reference_of, register_ref, sign_of, slice_by, sliced, wire_ref};
+ghost use Rattle.sv_lines.specs.Pieces.{cut};
+ghost use Rattle.sv_lines.specs.Operands.{chosen, inverted, joined, label_ref, last_operand, literal_by, literal_of, named_by, op_by, op_of, op_with_first, operand_at, operand_of, operated, operator_at, port_wire, reference_of, register_ref, sign_of, slice_by, sliced, wire_ref};
 ghost use Rattle.sv_reader.specs.Keys.{register_key};
 ghost use Rattle.sv_reader.specs.Seen as seen;
 ghost use Rattle.sv_reader.specs.SeenDraft.{draft_of};
@@ -11,10 +11,10 @@ use crate::draft::Draft;
 use crate::key::RegisterKey;
 use crate::lines::{Label, label_of, wire_of};
 use crate::pieces::{after, cut, number_at, operand_run, unbroken_run};
-use crate::wire::Wire;
 use anvil_bits::Bits;
 use core_term::BinOp;
 use std::alloc::Global;
+use sv_lines::Wire;
 use sv_tree::{SvOp, SvOperand, SvPort, SvRef};
 
 fn fits(width: u8, value: u64) -> bool
@@ -60,24 +60,24 @@ pub fn literal_of(text: &[u8]) -> Option<Bits>
     }
 }
 
-fn wire_ref(port: &SvPort, place: u32, wire: Wire) -> Option<SvRef>
-    ensures { result ≡ wire_ref (Some port.now) place wire }
+fn wire_ref(port: &SvPort, index: u32, wire: Wire) -> Option<SvRef>
+    ensures { result ≡ wire_ref (Some port.now) index wire }
 {
     match wire {
         Wire::Data => if port.received {
-            Some(SvRef::Data(place))
+            Some(SvRef::Data(index))
         } else {
             None
         },
         Wire::Valid => if port.received {
-            Some(SvRef::Valid(place))
+            Some(SvRef::Valid(index))
         } else {
             None
         },
         Wire::Ack => if port.received {
             None
         } else {
-            Some(SvRef::Ack(place))
+            Some(SvRef::Ack(index))
         },
     }
 }
@@ -180,8 +180,8 @@ fn port_wire(
     let Some(wire) = wire_of(word) else {
         return None;
     };
-    match draft.ports.place(alloc, endpoint, message) {
-        Some(place) => wire_ref(&draft.ports.ports()[place as usize], place, wire),
+    match draft.ports.index_of(alloc, endpoint, message) {
+        Some(index) => wire_ref(&draft.ports.ports()[index as usize], index, wire),
         None => None,
     }
 }
@@ -189,8 +189,8 @@ fn port_wire(
 fn register_ref(draft: &Draft, key: &RegisterKey) -> Option<SvRef>
     ensures { (name : SvRegName) → key.now ≡ register_key name → result ≡ register_ref (draft_of draft.now) name }
 {
-    match draft.regs.place(key) {
-        Some(place) => Some(SvRef::Reg(place)),
+    match draft.regs.index_of(key) {
+        Some(index) => Some(SvRef::Reg(index)),
         None => None,
     }
 }

@@ -1,6 +1,6 @@
 //! What the lines of outputs come to.
 ghost use Rattle.std.specs.Prelude.{◌≡◌, length, slice_get};
-ghost use Rattle.sv_reader.specs.Step.{is_empty, output_step, second_step};
+ghost use Rattle.sv_lines.specs.Step.{is_empty, output_step, second_step};
 ghost use Rattle.sv_reader.specs.Seen.{IsReading};
 ghost use Rattle.sv_reader.specs.SeenDraft.{draft_of, reached_of};
 
@@ -8,9 +8,9 @@ use crate::draft::Draft;
 use crate::fault::Fault;
 use crate::item_steps::{clock_or_end, with_out};
 use crate::items::given;
-use crate::place::{Place, Reached};
-use crate::wire::Wire;
+use crate::wanted::{Reached, Wanted};
 use std::alloc::Global;
+use sv_lines::Wire;
 use sv_tree::{SvOperand, SvOut};
 
 /// Whether there are no items.
@@ -24,39 +24,42 @@ pub fn is_empty<T: Drop>(items: &[T]) -> bool
 }
 
 /// The first line of an output, or what follows the outputs.
-pub fn output_step(alloc: Global, draft: Draft, line: &[u8]) -> Result<Reached, Fault>
-    ensures { IsReading reached_of (output_step (draft_of draft) (slice_get draft.ports (length draft.outs.items)) line.now) result }
+pub fn output_step<'a>(
+    alloc: Global,
+    draft: &mut Draft,
+    line: &'a [u8],
+) -> Result<Reached<'a>, Fault>
+    ensures { IsReading (reached_of draft.new) (output_step (draft_of draft.old) (slice_get draft.old.ports (length draft.old.outs.items)) line.now) result }
 {
-    match draft.ports.ports().get(draft.outs.len()) {
+    let read: &Draft = draft;
+    match read.ports.ports().get(read.outs.len()) {
         Some(port) => if port.received {
-            match given(alloc, &draft, port, Wire::Ack, 1, line) {
+            match given(alloc, read, port, Wire::Ack, 1, line) {
                 Some(ack) => with_out(draft, SvOut::Received { ack }),
                 None => Err(Fault::CannotStand),
             }
         } else {
-            match given(alloc, &draft, port, Wire::Data, port.width, line) {
-                Some(value) => Ok(Reached::Onward(draft, Place::Second(value))),
+            match given(alloc, read, port, Wire::Data, port.width, line) {
+                Some(value) => Ok(Reached::Onward(Wanted::Second(value))),
                 None => Err(Fault::CannotStand),
             }
         },
-        None => {
-            let has_no_registers = is_empty(draft.regs.regs());
-            clock_or_end(draft, has_no_registers, line)
-        }
+        None => clock_or_end(read, is_empty(read.regs.regs()), line),
     }
 }
 
 /// The second line of an output that is sent.
-pub fn second_step(
+pub fn second_step<'a>(
     alloc: Global,
-    draft: Draft,
+    draft: &mut Draft,
     value: SvOperand,
-    line: &[u8],
-) -> Result<Reached, Fault>
-    ensures { IsReading reached_of (second_step (draft_of draft) value (slice_get draft.ports (length draft.outs.items)) line.now) result }
+    line: &'a [u8],
+) -> Result<Reached<'a>, Fault>
+    ensures { IsReading (reached_of draft.new) (second_step (draft_of draft.old) value (slice_get draft.old.ports (length draft.old.outs.items)) line.now) result }
 {
-    match draft.ports.ports().get(draft.outs.len()) {
-        Some(port) => match given(alloc, &draft, port, Wire::Valid, 1, line) {
+    let read: &Draft = draft;
+    match read.ports.ports().get(read.outs.len()) {
+        Some(port) => match given(alloc, read, port, Wire::Valid, 1, line) {
             Some(valid) => with_out(draft, SvOut::Sent { value, valid }),
             None => Err(Fault::CannotStand),
         },

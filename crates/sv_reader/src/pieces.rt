@@ -3,8 +3,8 @@ ghost use Rattle.std.specs.Prelude.{◌≡◌, ◌≤◌, ◌+◌, ◌&&◌, ◌
 ghost use Rattle.std.specs.List.{prefix_len};
 ghost use Rattle.std.specs.Char.{is_ascii_digit};
 ghost use Rattle.anvil_lexer.specs.GoodName.{is_name_byte};
-ghost use Rattle.sv_reader.specs.Pieces.{after, after_run, cut, front_run, number_at, range_at};
-ghost use Rattle.sv_reader.specs.Operands.{is_no_blank, is_operand_byte};
+ghost use Rattle.sv_lines.specs.Pieces.{after, after_run, cut, front_run, number_at, range_at};
+ghost use Rattle.sv_lines.specs.Operands.{is_no_blank, is_operand_byte};
 ghost use Rattle.anvil_bits.specs.Number.{widest};
 
 use anvil_lexer::may_stand_in_name;

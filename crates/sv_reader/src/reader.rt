@@ -3,15 +3,14 @@ ghost use Rattle.std.specs.Prelude.{◌≡◌, ◌≢◌, ◌⊎◌, ◌-◌, �
 ghost use Rattle.std.specs.List.{prefix_len};
 ghost use Rattle.sv_tree.specs.Module.{Module};
 ghost use Rattle.sv_tree.specs.Text.{IsTextOf};
-ghost use Rattle.sv_reader.specs.Refused.{IsNotEmitted};
-ghost use Rattle.sv_reader.specs.State.{between, start};
-ghost use Rattle.sv_reader.specs.Step.{read_on, read_to_end, stopped};
+ghost use Rattle.sv_lines.specs.Refused.{IsNotEmitted};
+ghost use Rattle.sv_lines.specs.State.{between, start};
+ghost use Rattle.sv_lines.specs.Step.{read_on, read_to_end, stopped};
 ghost use Rattle.sv_reader.specs.SeenState.{IsRefusedBy, Quiet, fault_at, is_quiet_byte, state_of};
 
 use crate::error::SvErr;
 use crate::fault::Fault;
-use crate::modules::ModuleTable;
-use crate::state::{State, step};
+use crate::reading::Reading;
 use std::alloc::Global;
 use sv_tree::SvModule;
 
@@ -51,37 +50,22 @@ fn refusal(fault: Fault, at: usize) -> SvErr
 }
 
 // The state behind all lines, and the piece without a line feed that is left.
-fn read_lines(alloc: Global, text: &[u8]) -> Result<(State, &[u8]), SvErr>
+fn read_lines(alloc: Global, text: &[u8]) -> Result<(Reading<'_>, &[u8]), SvErr>
     requires { length text.now ≤ 2 ^ 24 }
     ensures lines { MatchResult result
         (λ end. read_on start 0 [] text.now ≡ read_to_end (state_of end.0) end.1.now)
         (λ fault. (fault ≡ SvErr.NoMemory) ⊎ ((at : ℕ) × (fault ≡ SvErr.NotEmitted at) × (read_on start 0 [] text.now ≡ stopped at))) }
     ensures left { IfOk result (λ end. length end.1.now ≤ length text.now) }
 {
-    let mut state = State::Between(ModuleTable::new(alloc));
+    let mut reading = Reading::new(alloc);
     let mut rest = text;
     while let Some((line, behind)) = first_line(rest) {
-        match step(alloc, state, line) {
-            Ok(next) => {
-                state = next;
-                rest = behind;
-            }
+        match reading.step(alloc, line) {
+            Ok(()) => rest = behind,
             Err(fault) => return Err(refusal(fault, text.len() - rest.len())),
         }
     }
-    Ok((state, rest))
-}
-
-// The modules of a text that is read to its end between two of them.
-fn whole_modules(state: State) -> Option<Vec<SvModule>>
-    ensures { MatchOption result
-        ((modules : List Module) → state_of state ≢ between modules)
-        (λ modules. state_of state ≡ between modules.items) }
-{
-    match state {
-        State::Between(whole) => Some(whole.into_modules()),
-        State::Inside(_, _, _) => None,
-    }
+    Ok((reading, rest))
 }
 
 /// The modules of which the text is the texts, one after the other, with different names. No bytes at all are no modules.
@@ -101,25 +85,25 @@ pub fn read_modules(alloc: Global, text: &[u8]) -> Result<Vec<SvModule>, SvErr>
         → MatchResult result (λ _. ⊥) (λ fault. (fault ≡ SvErr.NotEmitted place) ⊎ (fault ≡ SvErr.NoMemory)) }
 {
     match read_lines(alloc, text) {
-        Ok((state, left)) => ended(state, left.len(), text.len()),
+        Ok((reading, left)) => ended(reading, left.len(), text.len()),
         Err(fault) => Err(fault),
     }
 }
 
 // The answer where all lines are read, and so many bytes are left behind the last one.
-fn ended(state: State, left: usize, len: usize) -> Result<Vec<SvModule>, SvErr>
+fn ended(reading: Reading<'_>, left: usize, len: usize) -> Result<Vec<SvModule>, SvErr>
     requires within { left ≤ len }
     requires few { len ≤ 2 ^ 24 }
     ensures { MatchResult result
-        (λ modules. (left ≡ 0) × (state_of state ≡ between modules.items))
-        (λ fault. (fault ≡ SvErr.NotEmitted (len - left)) × ((left ≡ 0) → (modules : List Module) → state_of state ≢ between modules)) }
+        (λ modules. (left ≡ 0) × (state_of reading.entry ≡ between modules.items))
+        (λ fault. (fault ≡ SvErr.NotEmitted (len - left)) × ((left ≡ 0) → (modules : List Module) → state_of reading.entry ≢ between modules)) }
 {
     if left > 0 {
         return Err(SvErr::NotEmitted {
             at: (len - left) as u32,
         });
     }
-    match whole_modules(state) {
+    match reading.into_modules() {
         Some(modules) => Ok(modules),
         None => Err(SvErr::NotEmitted { at: len as u32 }),
     }

@@ -4,10 +4,10 @@ ghost use Rattle.std.specs.List.{list_any};
 ghost use Rattle.sv_tree.specs.Limits.{too_many};
 ghost use Rattle.sv_tree.specs.WellFormed.{is_name, is_port_name, is_same_port, is_same_register};
 ghost use Rattle.sv_tree.specs.declared.tree.SvReg.{SvReg};
-ghost use Rattle.sv_reader.specs.Operands.{is_named};
+ghost use Rattle.sv_lines.specs.Operands.{is_named};
 ghost use Rattle.sv_reader.specs.Keys.{is_same_key, register_key};
-ghost use Rattle.sv_reader.specs.Step.{state_count};
-ghost use Rattle.sv_reader.specs.State.{reset_to};
+ghost use Rattle.sv_lines.specs.Step.{has_room, state_count};
+ghost use Rattle.sv_lines.specs.State.{reset_to};
 ghost use Rattle.sv_reader.specs.declared.fault.Fault.TheVariants.{NoMemory};
 
 use crate::fault::Fault;
@@ -22,13 +22,21 @@ use sv_tree::{SvPort, SvReg, SvRegName};
 
 /// Puts an item after the others.
 pub fn push<T: Drop>(items: &mut Vec<T>, item: T) -> Result<(), Fault>
-    ensures pushed { OnOk result (items.new.items ≡ items.old.items ++ item ∷ []) }
-    ensures full { IfErr result (λ fault. fault ≡ NoMemory) }
+    ensures { MatchResult result
+        (λ _. items.new.items ≡ items.old.items ++ item ∷ [])
+        (λ fault. (items.new.items ≡ items.old.items) × (fault ≡ NoMemory)) }
 {
     match items.push(item) {
         Ok(()) => Ok(()),
         Err(_) => Err(Fault::NoMemory),
     }
+}
+
+/// Whether one item more leaves room: there are fewer than 2^32 of each kind.
+pub fn has_room(count: usize) -> bool
+    ensures { result ≡ has_room count }
+{
+    count < 0xffff_ffff
 }
 
 /// The message ports, each with a key by which it is found.
@@ -78,20 +86,20 @@ impl PortTable {
         self.ports
     }
 
-    /// The place of the port with these names.
+    /// The index of the port with these names.
     #[tactic(auto, using(crate::proofs::NamedPlaces::position_within))]
-    pub fn place(&self, alloc: Global, endpoint: &[u8], message: &[u8]) -> Option<u32>
-        ensures place { result ≡ position (is_named endpoint.now message.now) self.now }
-        ensures within { IfSome result (λ place. place < length self.now) }
+    pub fn index_of(&self, alloc: Global, endpoint: &[u8], message: &[u8]) -> Option<u32>
+        ensures index { result ≡ position (is_named endpoint.now message.now) self.now }
+        ensures within { IfSome result (λ index. index < length self.now) }
     {
         match self.find(alloc, endpoint, message) {
-            Some(place) => Some(place as u32),
+            Some(index) => Some(index as u32),
             None => None,
         }
     }
 
     fn find(&self, alloc: Global, endpoint: &[u8], message: &[u8]) -> Option<usize>
-        ensures place { result ≡ position (is_named endpoint.now message.now) self.now }
+        ensures index { result ≡ position (is_named endpoint.now message.now) self.now }
         ensures few { length self.now < too_many }
     {
         match good_name(alloc, endpoint) {
@@ -110,7 +118,7 @@ impl PortTable {
         is_name(port.endpoint.bytes())
             && is_name(port.message.bytes())
             && !self.contains(port)
-            && self.ports.len() < 0xffff_ffff
+            && has_room(self.ports.len())
     }
 
     fn contains(&self, port: &SvPort) -> bool
@@ -120,22 +128,22 @@ impl PortTable {
             .contains(&(port.endpoint.copy(), port.message.copy()))
     }
 
-    /// With one port more, which has a good name that none has.
-    pub fn with(self, port: SvPort) -> Result<PortTable, Fault>
-        requires { (is_port_name port && not (list_any (is_same_port port) self) && nat_lt (length self + 1) too_many) ≡ true }
-        ensures { MatchResult result (λ table. table ≡ self ++ port ∷ []) (λ fault. fault ≡ NoMemory) }
+    /// Puts a port after the others, which has a good name that none has.
+    pub fn add(&mut self, port: SvPort) -> Result<(), Fault>
+        requires { (is_port_name port && not (list_any (is_same_port port) self.old) && nat_lt (length self.old + 1) too_many) ≡ true }
+        ensures { MatchResult result (λ _. self.new ≡ self.old ++ port ∷ []) (λ fault. fault ≡ NoMemory) }
     {
-        let PortTable {
-            mut ports,
-            mut names,
-        } = self;
+        let count = self.ports.len();
         let name = (port.endpoint.copy(), port.message.copy());
-        match names.insert(name) {
-            Ok(_) => match push(&mut ports, port) {
-                Ok(()) => Ok(PortTable { ports, names }),
-                Err(fault) => Err(fault),
+        match push(&mut self.ports, port) {
+            Ok(()) => match self.names.insert(name) {
+                Ok(_) => Ok(()),
+                Err(_) => {
+                    self.ports.truncate(count);
+                    Err(Fault::NoMemory)
+                }
             },
-            Err(_) => Err(Fault::NoMemory),
+            Err(fault) => Err(fault),
         }
     }
 }
@@ -152,7 +160,7 @@ impl Model for RegisterTable {
     ghost use Rattle.std.specs.Prelude.{List, length, map, ◌≡◌, ◌<◌};
     ghost use Rattle.sv_tree.specs.Limits.{too_many};
     ghost use Rattle.sv_tree.specs.declared.tree.SvReg.{SvReg};
-    ghost use Rattle.sv_reader.specs.Step.{state_count};
+    ghost use Rattle.sv_lines.specs.Step.{state_count};
     ghost use Rattle.sv_reader.specs.Keys.{register_key};
 
     ghost Value = { List SvReg };
@@ -198,11 +206,11 @@ impl RegisterTable {
         self.regs
     }
 
-    /// The register at a place.
-    pub fn get(&self, place: usize) -> Option<&SvReg>
-        ensures { MatchOption result (slice_get self.now place ≡ None) (λ reg. slice_get self.now place ≡ Some reg.now) }
+    /// The register at an index.
+    pub fn get(&self, index: usize) -> Option<&SvReg>
+        ensures { MatchOption result (slice_get self.now index ≡ None) (λ reg. slice_get self.now index ≡ Some reg.now) }
     {
-        self.regs.get(place)
+        self.regs.get(index)
     }
 
     /// How many registers are states.
@@ -213,20 +221,20 @@ impl RegisterTable {
         self.states
     }
 
-    /// The place of the register with this name.
+    /// The index of the register with this name.
     #[tactic(auto, using(crate::proofs::NamedPlaces::key_within))]
-    pub fn place(&self, name: &RegisterKey) -> Option<u32>
-        ensures place { result ≡ position (is_same_key name.now) (map (λ (reg : SvReg). register_key reg.name) self.now) }
-        ensures within { IfSome result (λ place. place < length self.now) }
+    pub fn index_of(&self, name: &RegisterKey) -> Option<u32>
+        ensures index { result ≡ position (is_same_key name.now) (map (λ (reg : SvReg). register_key reg.name) self.now) }
+        ensures within { IfSome result (λ index. index < length self.now) }
     {
         match self.find(name) {
-            Some(place) => Some(place as u32),
+            Some(index) => Some(index as u32),
             None => None,
         }
     }
 
     fn find(&self, name: &RegisterKey) -> Option<usize>
-        ensures place { result ≡ position (is_same_key name.now) (map (λ (reg : SvReg). register_key reg.name) self.now) }
+        ensures index { result ≡ position (is_same_key name.now) (map (λ (reg : SvReg). register_key reg.name) self.now) }
         ensures few { length self.now < too_many }
     {
         self.names.get_index_of(name)
@@ -246,48 +254,37 @@ impl RegisterTable {
         !self.contains(&key_of(name))
     }
 
-    /// With one register more, of a name that none has.
-    pub fn with(self, reg: SvReg) -> Result<RegisterTable, Fault>
-        requires fresh { not (list_any (is_same_register reg.name) (map (λ (reg : SvReg). reg.name) self)) ≡ true }
-        requires room { nat_lt (length self + 1) too_many ≡ true }
-        ensures { MatchResult result (λ table. table ≡ self ++ reg ∷ []) (λ fault. fault ≡ NoMemory) }
+    /// Puts a register after the others, of a name that none has.
+    pub fn add(&mut self, reg: SvReg) -> Result<(), Fault>
+        requires fresh { not (list_any (is_same_register reg.name) (map (λ (reg : SvReg). reg.name) self.old)) ≡ true }
+        requires room { nat_lt (length self.old + 1) too_many ≡ true }
+        ensures { MatchResult result (λ _. self.new ≡ self.old ++ reg ∷ []) (λ fault. fault ≡ NoMemory) }
     {
-        let RegisterTable {
-            mut regs,
-            mut names,
-            states,
-        } = self;
+        let count = self.regs.len();
         let name = key_of(&reg.name);
-        let states = states + count_of(&reg.name);
-        match names.insert(name) {
-            Ok(_) => match push(&mut regs, reg) {
-                Ok(()) => Ok(RegisterTable {
-                    regs,
-                    names,
-                    states,
-                }),
-                Err(fault) => Err(fault),
+        let states = self.states + count_of(&reg.name);
+        match push(&mut self.regs, reg) {
+            Ok(()) => match self.names.insert(name) {
+                Ok(_) => {
+                    self.states = states;
+                    Ok(())
+                }
+                Err(_) => {
+                    self.regs.truncate(count);
+                    Err(Fault::NoMemory)
+                }
             },
-            Err(_) => Err(Fault::NoMemory),
+            Err(fault) => Err(fault),
         }
     }
 
-    /// With another reset of the register at a place.
-    pub fn with_reset(self, place: usize, reset: Bits) -> RegisterTable
-        requires within { place < length self }
-        ensures { (reg : SvReg) → slice_get self place ≡ Some reg → result ≡ set self place (reset_to reg reset) }
+    /// Gives the register of this index its reset.
+    pub fn set_reset(&mut self, index: usize, reset: Bits)
+        requires { index < length self.old }
+        ensures few { index < too_many }
+        ensures reset { (reg : SvReg) → slice_get self.old index ≡ Some reg → self.new ≡ set self.old index (reset_to reg reset) }
     {
-        let RegisterTable {
-            mut regs,
-            names,
-            states,
-        } = self;
-        regs[place].reset = reset;
-        RegisterTable {
-            regs,
-            names,
-            states,
-        }
+        self.regs[index].reset = reset;
     }
 }
 

@@ -4,41 +4,41 @@ ghost use Rattle.sv_tree.specs.declared.tree.SvNet.{SvNet};
 ghost use Rattle.sv_tree.specs.declared.tree.SvPort.{SvPort};
 ghost use Rattle.sv_tree.specs.declared.tree.SvReg.{SvReg};
 ghost use Rattle.sv_tree.specs.WellFormed.{bin_widths_fit, operand_width, ref_width, slice_widths_fit};
-ghost use Rattle.sv_reader.specs.Operands.{widths_fit};
+ghost use Rattle.sv_lines.specs.Operands.{widths_fit};
 ghost use Rattle.sv_reader.specs.SeenDraft.{draft_of};
 
 use crate::draft::Draft;
 use core_term::BinOp;
 use sv_tree::{SvNet, SvOp, SvOperand, SvPort, SvRef, SvReg};
 
-#[tactic(auto, using(crate::proofs::WidthsAt::width_at, crate::proofs::WidthsAt::no_width_at))]
-fn port_width(ports: &[SvPort], place: usize) -> u8
-    ensures { result ≡ slice_index (map (λ (port : SvPort). port.width) ports.now) place }
+#[tactic(auto, using(sv_lines::proofs::read::WidthsAt::width_at, sv_lines::proofs::read::WidthsAt::no_width_at))]
+fn port_width(ports: &[SvPort], index: usize) -> u8
+    ensures { result ≡ slice_index (map (λ (port : SvPort). port.width) ports.now) index }
 {
-    if place < ports.len() {
-        ports[place].width
+    if index < ports.len() {
+        ports[index].width
     } else {
         0
     }
 }
 
-#[tactic(auto, using(crate::proofs::WidthsAt::width_at, crate::proofs::WidthsAt::no_width_at))]
-fn register_width(regs: &[SvReg], place: usize) -> u8
-    ensures { result ≡ slice_index (map (λ (reg : SvReg). reg.width) regs.now) place }
+#[tactic(auto, using(sv_lines::proofs::read::WidthsAt::width_at, sv_lines::proofs::read::WidthsAt::no_width_at))]
+fn register_width(regs: &[SvReg], index: usize) -> u8
+    ensures { result ≡ slice_index (map (λ (reg : SvReg). reg.width) regs.now) index }
 {
-    if place < regs.len() {
-        regs[place].width
+    if index < regs.len() {
+        regs[index].width
     } else {
         0
     }
 }
 
-#[tactic(auto, using(crate::proofs::WidthsAt::width_at, crate::proofs::WidthsAt::no_width_at))]
-fn net_width(nets: &[SvNet], place: usize) -> u8
-    ensures { result ≡ slice_index (map (λ (net : SvNet). net.width) nets.now) place }
+#[tactic(auto, using(sv_lines::proofs::read::WidthsAt::width_at, sv_lines::proofs::read::WidthsAt::no_width_at))]
+fn net_width(nets: &[SvNet], index: usize) -> u8
+    ensures { result ≡ slice_index (map (λ (net : SvNet). net.width) nets.now) index }
 {
-    if place < nets.len() {
-        nets[place].width
+    if index < nets.len() {
+        nets[index].width
     } else {
         0
     }
@@ -48,11 +48,11 @@ fn ref_width(draft: &Draft, of: SvRef) -> u8
     ensures { result ≡ ref_width (draft_of draft.now) of }
 {
     match of {
-        SvRef::Data(place) => port_width(draft.ports.ports(), place as usize),
+        SvRef::Data(index) => port_width(draft.ports.ports(), index as usize),
         SvRef::Valid(_) => 1,
         SvRef::Ack(_) => 1,
-        SvRef::Reg(place) => register_width(draft.regs.regs(), place as usize),
-        SvRef::Net(place) => net_width(draft.nets.nets(), place as usize),
+        SvRef::Reg(index) => register_width(draft.regs.regs(), index as usize),
+        SvRef::Net(index) => net_width(draft.nets.nets(), index as usize),
     }
 }
 

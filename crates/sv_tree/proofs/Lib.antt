@@ -3,3 +3,4 @@ mod Parts
 mod Sample
 mod Ports
 mod IllFormed
+pub mod NumbersFit

@@ -33,10 +33,13 @@ operand_value inputs cycle registers nets (Lit number) = number.value
 
 -- what an operator gives a net of `width` bits
 abbrev pub operation_value : Module → Inputs → (cycle : ℕ) → (registers nets : List ℕ) → (width : ℕ) → SvOp → ℕ
-operation_value tree inputs cycle registers nets width (Not x) = not_of width (operand_value inputs cycle registers nets x)
+operation_value tree inputs cycle registers nets width (Not x) =
+    not_of width (operand_value inputs cycle registers nets x)
 operation_value tree inputs cycle registers nets width (Bin op x y) =
-    operate op width (operand_width tree y) (operand_value inputs cycle registers nets x) (operand_value inputs cycle registers nets y)
-operation_value tree inputs cycle registers nets width (Slice of high low) = slice_of high low (ref_value inputs cycle registers nets of)
+    operate op width (operand_width tree y) (operand_value inputs cycle registers nets x)
+    (operand_value inputs cycle registers nets y)
+operation_value tree inputs cycle registers nets width (Slice of high low) =
+    slice_of high low (ref_value inputs cycle registers nets of)
 operation_value tree inputs cycle registers nets width (Choose condition x y) =
     choice_of (operand_value inputs cycle registers nets condition)
     (operand_value inputs cycle registers nets x)
@@ -46,14 +49,16 @@ operation_value tree inputs cycle registers nets width (Choose condition x y) =
 abbrev pub net_values_after : Module → Inputs → (cycle : ℕ) → (registers nets : List ℕ) → List SvNet → List ℕ
 net_values_after tree inputs cycle registers nets [] = nets
 net_values_after tree inputs cycle registers nets (net ∷ rest) =
-    net_values_after tree inputs cycle registers (nets ++ operation_value tree inputs cycle registers nets net.width net.op ∷ []) rest
+    net_values_after tree inputs cycle registers
+    (nets ++ operation_value tree inputs cycle registers nets net.width net.op ∷ []) rest
 
 abbrev pub net_values : Module → Inputs → (cycle : ℕ) → (registers : List ℕ) → List ℕ
 net_values tree inputs cycle registers = net_values_after tree inputs cycle registers [] tree.nets
 
 -- what an operand shows once all nets are valued
 abbrev pub settled_value : Module → Inputs → (cycle : ℕ) → (registers : List ℕ) → SvOperand → ℕ
-settled_value tree inputs cycle registers x = operand_value inputs cycle registers (net_values tree inputs cycle registers) x
+settled_value tree inputs cycle registers x =
+    operand_value inputs cycle registers (net_values tree inputs cycle registers) x
 
 -- what the outgoing wires of a port show
 pub data Output : Type 0 where

@@ -2,6 +2,8 @@ pub mod Limits
 pub mod GoodName
 pub mod Module
 pub mod WellFormed
+pub mod Sources
 pub mod Text
 pub mod Clocked
+pub mod Fitting
 pub mod RegisterBits

@@ -1,5 +1,5 @@
--- The limits that an emitted module keeps: `widest`, the most bits of a port, register, net or literal; `longest_name`, the
--- most bytes of a name; and the number below which the counts of ports, registers and nets stay.
+-- The limits that an emitted module keeps: `widest`, the most bits of a port, register, net or literal; `longest_name`,
+-- the most bytes of a name; and the number below which the counts of ports, registers and nets stay.
 use Rattle.std.specs.Prelude.{ℕ, ◌^◌}
 pub use Rattle.anvil_bits.specs.Number.{widest}
 pub use Rattle.anvil_lexer.specs.Name.{longest_name}

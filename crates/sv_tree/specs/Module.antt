@@ -1,5 +1,5 @@
 -- An emitted module, as contracts see an `SvModule`: plain data, in which a name is the list of its bytes and a `Bits`
--- is its width and value. Ports, registers and nets are named by their places in the lists.
+-- is its width and value. Ports, registers and nets are named by their numbers in the lists.
 use Rattle.std.specs.Prelude.{ℕ, List}
 use Rattle.sv_tree.specs.declared.tree.SvPort.{SvPort}
 use Rattle.sv_tree.specs.declared.tree.SvReg.{SvReg}

@@ -1,11 +1,13 @@
--- A well-formed module: one whose text is in the emitted subset, and whose operators have operands of the widths that the
--- facts of IEEE 1800-2017 ask for. It is a test that computes, with a part for each point.
+-- A well-formed module: one whose text is in the emitted subset, and whose operators have operands of the widths that
+-- the facts of IEEE 1800-2017 ask for. It is a test that computes, with a part for each point.
 use Rattle.std.specs.Prelude.{ℕ, ◌+◌, ◌^◌, ◌==◌, nat_lt, nat_le, Bool, true, false, not, ◌&&◌, IsTrue}
 use Rattle.std.specs.Prelude.{List, [], ◌∷◌, length, map, slice_get, slice_index, bytes_eq, Option, Some, None}
-use Rattle.std.specs.List.{list_all, list_any}
+use Rattle.std.specs.List.{list_all}
 use Rattle.anvil_bits.specs.Number.{Number}
 use Rattle.core_term.specs.declared.operators.BinOp.{BinOp}
-use Rattle.core_term.specs.declared.operators.BinOp.TheVariants.{Add, Sub, Mul, And, Or, Xor, Eq, Ne, Lt, Le, Gt, Ge, Shl, Shr, Cat}
+use Rattle.core_term.specs.declared.operators.BinOp.TheVariants.{Add, Sub, Mul, And, Or, Xor, Eq, Ne, Lt, Le, Gt, Ge}
+use Rattle.core_term.specs.declared.operators.BinOp.TheVariants.{Shl, Shr, Cat}
+pub use Rattle.core_term.specs.Names.{has_no_twice}
 use Rattle.sv_tree.specs.declared.tree.SvPort.{SvPort}
 use Rattle.sv_tree.specs.declared.tree.SvRegName.{SvRegName}
 use Rattle.sv_tree.specs.declared.tree.SvRegName.TheVariants.{Source, State}
@@ -37,14 +39,10 @@ is_register_name (Source name) = is_name name
 is_register_name (State number) = true
 
 abbrev pub names_are_good : Module → Bool
-names_are_good tree = is_name tree.proc && list_all is_port_name tree.ports && list_all (λ r. is_register_name r.name) tree.regs
+names_are_good tree =
+    is_name tree.proc && list_all is_port_name tree.ports && list_all (λ r. is_register_name r.name) tree.regs
 
 -- Nothing stands twice.
-
--- no item is the same as a later one
-abbrev pub has_no_twice : {X : Type 0} → (X → X → Bool) → List X → Bool
-has_no_twice same [] = true
-has_no_twice same (x ∷ rest) = not (list_any (same x) rest) && has_no_twice same rest
 
 -- of one endpoint and message
 abbrev pub is_same_port : SvPort → SvPort → Bool
@@ -85,7 +83,8 @@ is_number number = is_width number.width && nat_lt number.value (2 ^ number.widt
 
 abbrev pub widths_are_within : Module → Bool
 widths_are_within tree =
-    list_all (λ p. is_width p.width) tree.ports && list_all (λ r. is_width r.width) tree.regs && list_all (λ n. is_width n.width) tree.nets
+    list_all (λ p. is_width p.width) tree.ports && list_all (λ r. is_width r.width) tree.regs
+    && list_all (λ n. is_width n.width) tree.nets
 
 -- Operands. Each is the `data` or `valid` of a received port, the `ack` of a sent port, a register, one of the first
 -- `known` nets, or a literal.
@@ -158,8 +157,10 @@ slice_widths_fit high low width x = nat_le low high && nat_lt high x && (width +
 abbrev pub op_fits : Module → (known width : ℕ) → SvOp → Bool
 op_fits tree known width (Not x) = is_operand_of tree known width x
 op_fits tree known width (Bin op x y) =
-    operand_stands tree known x && operand_stands tree known y && bin_widths_fit op width (operand_width tree x) (operand_width tree y)
-op_fits tree known width (Slice of high low) = ref_stands tree known of && slice_widths_fit high low width (ref_width tree of)
+    operand_stands tree known x && operand_stands tree known y
+    && bin_widths_fit op width (operand_width tree x) (operand_width tree y)
+op_fits tree known width (Slice of high low) =
+    ref_stands tree known of && slice_widths_fit high low width (ref_width tree of)
 op_fits tree known width (Choose condition x y) =
     is_operand_of tree known 1 condition && is_operand_of tree known width x && is_operand_of tree known width y
 
@@ -197,12 +198,15 @@ nexts_fit tree (reg ∷ regs) (next ∷ nexts) = gives tree reg.width next && ne
 
 -- Ports, registers and nets are each fewer than 2 ^ 32.
 abbrev pub are_few : Module → Bool
-are_few tree = nat_lt (length tree.ports) too_many && nat_lt (length tree.regs) too_many && nat_lt (length tree.nets) too_many
+are_few tree =
+    nat_lt (length tree.ports) too_many && nat_lt (length tree.regs) too_many && nat_lt (length tree.nets) too_many
 
 unfoldable pub is_well_formed : Module → Bool
 is_well_formed tree =
-    names_are_good tree && names_differ tree && sources_then_states (register_names tree) && widths_are_within tree && nets_fit tree 0 tree.nets
-    && outs_fit tree tree.ports tree.outs && list_all reset_fits tree.regs && nexts_fit tree tree.regs tree.nexts && are_few tree
+    names_are_good tree && names_differ tree && sources_then_states
+    (register_names tree) && widths_are_within tree && nets_fit tree 0 tree.nets
+    && outs_fit tree tree.ports tree.outs && list_all reset_fits tree.regs && nexts_fit tree tree.regs tree.nexts
+    && are_few tree
 
 abbrev pub IsWellFormed : Module → Type 0
 IsWellFormed tree = IsTrue (is_well_formed tree)

@@ -5,6 +5,7 @@
 //! what it means in each cycle are the definitions in `specs/`.
 #![tactic(auto)]
 
+pub mod laws;
 mod module;
 #[cfg(test)]
 mod tests;

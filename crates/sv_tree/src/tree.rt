@@ -1,4 +1,4 @@
-//! The parts of an emitted module. Places (`u32`) count from 0 in the module's lists of ports, registers and nets, and
+//! The parts of an emitted module. Numbers (`u32`) count from 0 in the module's lists of ports, registers and nets, and
 //! widths are in bits.
 
 use anvil_bits::Bits;
@@ -30,7 +30,7 @@ pub struct SvReg {
     pub reset: Bits,
 }
 
-/// What an operand can name: a wire of the port at a place, a register or a net. `Data` and `Valid` are those of a received
+/// What an operand can name: a wire of the port of a number, a register or a net. `Data` and `Valid` are those of a received
 /// port, and `Ack` that of a sent one.
 #[derive(Clone, Copy, Debug, PartialEq, Eq)]
 pub enum SvRef {

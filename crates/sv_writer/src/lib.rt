@@ -13,8 +13,6 @@ mod operands;
 mod operators;
 mod outputs;
 mod pieces;
-#[cfg(test)]
-mod tests;
 
 use crate::clock::put_clock;
 use crate::header::put_header;

@@ -3,7 +3,7 @@ use Rattle.std.proofs.Common.{sym, ◌∙◌, ap, subst, arith, List, length}
 use Rattle.anvil_lexer.specs.declared.token.Token.{Token}
 use Rattle.anvil_lexer.specs.TokenText.{AreTokensFrom}
 use Rattle.anvil_lexer.proofs.Reading.{end_long}
-use Rattle.anvil_lexer.proofs.Turns.{end_turn, token_turn, fault_turn, fault_before, shorter, some_here, full_or_not, end_chain, pushed}
+use Rattle.anvil_lexer.proofs.Turns.{end_turn, token_turn, refusal_turn, refusal_before, shorter, some_here, full_or_not, end_chain, pushed}
 use Rattle.anvil_lexer.proofs.tokens.tokens_of.Goals as goal
 
 pub returns-in-Ok : goal.returns-in-Ok
@@ -34,8 +34,8 @@ loop-first-preserved c =
       end = end_chain _ _ _ kept.end (end_chain _ _ _ gap.end c.in-Ok-token.ensures.reads.end);
       tokens = λ tokens are. subst (λ (l : List Token). AreTokensFrom c.args.text.now 0 l)
           (sym (pushed _ _ tokens _ c.in-Ok-push.ensures.items)) (kept.tokens _ (turn tokens are));
-      faults = λ e fails. kept.faults e
-          (fault_before _ _ _ kept.end gap.end kept.utf8 c.after_gap-here.utf8 gap.left c.in-Ok-token.kind c.in-Ok-token.after.now some.0 c.in-Ok-token.ensures e fails);
+      refusals = λ e fails. kept.refusals e
+          (refusal_before _ _ _ kept.end gap.end kept.utf8 c.after_gap-here.utf8 gap.left c.in-Ok-token.kind c.in-Ok-token.after.now some.0 c.in-Ok-token.ensures e fails);
     }
 
 pub returns-in-Err-token : goal.returns-in-Err-token
@@ -44,5 +44,5 @@ returns-in-Err-token c =
     let gap = c.after_gap-here.ensures in
     let read = sym c.chars.ensures.rest ∙ c.in-Some.ensures.steps.0 in
     let some = some_here _ _ _ c.after_gap-here.utf8 read in
-    full_or_not _ c.in-Err-token.fault (kept.faults _
-    (fault_turn _ _ _ kept.end gap.end kept.utf8 c.after_gap-here.utf8 gap.left c.in-Err-token.fault some.0 some.1 c.in-Err-token.ensures))
+    full_or_not _ c.in-Err-token.refusal (kept.refusals _
+    (refusal_turn _ _ _ kept.end gap.end kept.utf8 c.after_gap-here.utf8 gap.left c.in-Err-token.refusal some.0 some.1 c.in-Err-token.ensures))

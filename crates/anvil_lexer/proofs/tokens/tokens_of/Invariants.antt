@@ -1,4 +1,4 @@
--- The tokens so far come before whatever is read of what is left, and a fault of what is left is one of the text.
+-- The tokens so far come before whatever is read of what is left, and a refusal of what is left is one of the text.
 use Rattle.std.proofs.Common.{◌++◌, List, length}
 use Rattle.std.specs.Str.{IsUtf8}
 use Rattle.anvil_lexer.specs.declared.error.LexErr.{LexErr}
@@ -13,7 +13,7 @@ invariant-loop-first l = record {
   utf8 : IsUtf8 l.rest;
   end : IsEndOf l.text l.rest;
   tokens : (tokens : List Token) → AreTokensFrom l.text (place_of l.text l.rest) tokens → AreTokensFrom l.text 0 (l.tokens.items ++ tokens);
-  faults : (e : LexErr) → FailsFrom l.text (place_of l.text l.rest) e → FailsFrom l.text 0 e;
+  refusals : (e : LexErr) → FailsFrom l.text (place_of l.text l.rest) e → FailsFrom l.text 0 e;
 }
 
 abbrev pub decreases-loop-first : goal.decreases-loop-first

@@ -1,7 +1,7 @@
 -- What the term comes to from here is what it comes to from the start; each turn takes a frame away.
 use Rattle.std.proofs.Common.{◌≡◌, length}
 use Rattle.anvil_tree.specs.View.{term_of}
-use Rattle.anvil_parser.specs.Step.{term_ends}
+use Rattle.anvil_grammar.specs.Step.{term_ends}
 use Rattle.anvil_parser.specs.SeenThread.{stack_of}
 use Rattle.anvil_parser.proofs.act.term_ends.Given as goal
 

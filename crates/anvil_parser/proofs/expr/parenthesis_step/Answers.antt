@@ -1,7 +1,7 @@
 -- Where the token is no `)`, the operand of a group begins.
 use Rattle.std.proofs.Common.{◌≡◌, sym, subst}
 use Rattle.anvil_tree.specs.View.{term_of}
-use Rattle.anvil_parser.specs.Step.{operand_step, parenthesis_step}
+use Rattle.anvil_grammar.specs.Step.{operand_step, parenthesis_step}
 use Rattle.anvil_parser.specs.Seen.{IsStep}
 use Rattle.anvil_parser.specs.SeenThread.{stack_of, thread_of}
 use Rattle.anvil_parser.proofs.Openings.{acted_none, group_begins}

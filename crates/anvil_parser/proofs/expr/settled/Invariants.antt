@@ -1,7 +1,7 @@
 -- What is settled from here is what is settled from the start; each turn takes a frame away.
 use Rattle.std.proofs.Common.{◌≡◌, length}
 use Rattle.anvil_tree.specs.View.{expr_of}
-use Rattle.anvil_parser.specs.Step.{settled}
+use Rattle.anvil_grammar.specs.Step.{settled}
 use Rattle.anvil_parser.specs.SeenThread.{stack_of}
 use Rattle.anvil_parser.proofs.expr.settled.Given as goal
 

@@ -8,5 +8,5 @@ use Rattle.anvil_tool.proofs.modules.modules_of_file.Goals as goal
 
 pub modules_of-requires : goal.modules_of-requires
 modules_of-requires c =
-    let plain : IsPlainFile (map counter_of c.in-Some.plains.items) (file_of c.args.file.now) = rw c.in-Some.is at c.in-Ok.ensures in
-    rw c.deref.ensures.value (counters_hold c.in-Some.plains.items _ plain.counting)
+    let plain : IsPlainFile (map counter_of c.in-Some.counters.items) (file_of c.args.file.now) = rw c.in-Some.is at c.in-Ok.ensures in
+    rw c.deref.ensures.value (counters_hold c.in-Some.counters.items _ plain.counting)

@@ -1,4 +1,4 @@
-use Rattle.std.proofs.Common.{sym, subst, ◌∙◌}
+use Rattle.std.proofs.Common.{sym, subst}
 use Rattle.core_term.proofs.CountingAccepted.{Counts, one_thread}
 use Rattle.core_term.proofs.accepted_example.accepted_counter.Goals as goal
 

@@ -1,5 +1,5 @@
 use Rattle.std.proofs.Common.{sym, ◌∙◌}
-use Rattle.sv_reader.proofs.GoodNames.{name_is_text, name_is_short}
+use Rattle.sv_lines.proofs.read.GoodNames.{name_is_text, name_is_short}
 use Rattle.sv_reader.proofs.lines.good_name.Goals as goal
 
 pub of-requires-clause-few : goal.of-requires-clause-few

@@ -4,7 +4,7 @@ use Rattle.sv_reader.proofs.NamedPlaces.{register_ref_found}
 use Rattle.sv_reader.proofs.operands.register_ref.Goals as goal
 
 pub returns-in-Some : goal.returns-in-Some
-returns-in-Some c = λ name is. register_ref_found (draft_of c.args.draft.now) c.args.key.now name (Some c.in-Some.place) is (sym c.in-Some.is ∙ c.place.ensures.place)
+returns-in-Some c = λ name is. register_ref_found (draft_of c.args.draft.now) c.args.key.now name (Some c.in-Some.index) is (sym c.in-Some.is ∙ c.index_of.ensures.index)
 
 pub returns-in-None : goal.returns-in-None
-returns-in-None c = λ name is. register_ref_found (draft_of c.args.draft.now) c.args.key.now name None is (sym c.in-None.is ∙ c.place.ensures.place)
+returns-in-None c = λ name is. register_ref_found (draft_of c.args.draft.now) c.args.key.now name None is (sym c.in-None.is ∙ c.index_of.ensures.index)

@@ -1,6 +1,6 @@
 use Rattle.std.proofs.lemmas.Slice.Eq.{strip_prefix_is}
 use Rattle.std.proofs.lemmas.Bool.Decides.{Decides-eqb}
-use Rattle.sv_reader.proofs.PiecesRead.{after_decided}
+use Rattle.sv_lines.proofs.read.PiecesRead.{after_decided}
 use Rattle.sv_reader.proofs.pieces.after.Goals as goal
 
 pub returns : goal.returns

@@ -1,5 +1,5 @@
 use Rattle.std.proofs.Common.{arith}
-use Rattle.sv_reader.proofs.CutLoop.{look_ended}
+use Rattle.sv_lines.proofs.read.CutLoop.{look_ended}
 use Rattle.sv_reader.proofs.pieces.cut_len.Goals as goal
 
 pub returns-else-count-text : goal.returns-else-count-text

@@ -1,5 +1,5 @@
 use Rattle.std.proofs.Common.{length, ◌-◌}
-use Rattle.sv_reader.proofs.CutLoop.{Looked}
+use Rattle.sv_lines.proofs.read.CutLoop.{Looked}
 use Rattle.sv_reader.proofs.pieces.cut_len.Given as goal
 
 abbrev pub invariant-loop-count : goal.invariant-loop-count

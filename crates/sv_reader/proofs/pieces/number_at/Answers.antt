@@ -5,9 +5,9 @@ use Rattle.std.proofs.lemmas.Fmt.{parse-decimal, IsAscii-decimal}
 use Rattle.std.proofs.lemmas.Str.{IsUtf8-from_ascii}
 use Rattle.std.specs.Fmt.{decimal}
 use Rattle.std.specs.Str.{IsUtf8}
-use Rattle.sv_reader.specs.Pieces.{number_at}
-use Rattle.sv_reader.proofs.Decided.{none_of}
-use Rattle.sv_reader.proofs.PiecesRead.{number_read}
+use Rattle.sv_lines.specs.Pieces.{number_at}
+use Rattle.sv_lines.proofs.read.Decided.{none_of}
+use Rattle.sv_lines.proofs.read.PiecesRead.{number_read}
 use Rattle.sv_reader.proofs.pieces.number_at.Goals as goal
 
 pub returns-in_default : goal.returns-in_default

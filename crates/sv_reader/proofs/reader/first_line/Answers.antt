@@ -1,6 +1,6 @@
 -- The bytes before the first line feed are a line.
 use Rattle.std.proofs.Common.{arith}
-use Rattle.sv_reader.proofs.LineCut.{line_found, piece_quiet}
+use Rattle.sv_lines.proofs.answer.LineCut.{line_found, piece_quiet}
 use Rattle.sv_reader.proofs.reader.first_line.Goals as goal
 
 pub returns-then-count-text : goal.returns-then-count-text

@@ -10,7 +10,7 @@ abbrev items : Vec Module → List Module
 items modules = modules.items
 
 ended : (c : goal.After-ended) → Answers items c.args.text.now c.ended.result
-ended c = end_answers items c.args.text.now (state_of c.in-Ok.state) c.in-Ok.left.now c.ended.result c.in-Ok.ensures.left c.in-Ok.ensures.lines c.ended.ensures
+ended c = end_answers items c.args.text.now (state_of c.in-Ok.reading) c.in-Ok.left.now c.ended.result c.in-Ok.ensures.left c.in-Ok.ensures.lines c.ended.ensures
 
 refused : (c : goal.In-Err) → Answers items c.args.text.now (Err c.in-Err.fault)
 refused c = stopped_answers c.args.text.now c.in-Err.fault c.in-Err.ensures.lines

@@ -9,7 +9,7 @@ use Rattle.anvil_parser.proofs.stack.Stack.push.Goals as goal
 pushed : {V E : Type 0} (result : Result V E) (old new : List Frame) (frame : Frame) → OnOk result (new ≡ old ++ (frame ∷ []))
     → OnOk result (frames_onto new [] ≡ frame_of frame ∷ frames_onto old [])
 pushed (Ok value) old new frame is = rw is (frames_onto_last old frame [])
-pushed (Err fault) old new frame is = tt
+pushed (Err refusal) old new frame is = tt
 
 pub returns-clause-pushed : goal.returns-clause-pushed
 returns-clause-pushed c = pushed _ _ _ _ c.push.ensures.pushed

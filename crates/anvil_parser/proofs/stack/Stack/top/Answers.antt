@@ -4,7 +4,7 @@ use Rattle.std.specs.Prelude.{MatchOption}
 use Rattle.std.proofs.lemmas.Option.{slice_get-get_or}
 use Rattle.std.specs.Option.{option_copied}
 use Rattle.anvil_parser.specs.declared.stack.Frame.{Frame}
-use Rattle.anvil_parser.specs.Position as position
+use Rattle.anvil_grammar.specs.State as states
 use Rattle.anvil_parser.specs.SeenThread.{frame_of, frames_onto}
 use Rattle.anvil_parser.proofs.Stacks.{top_of}
 use Rattle.anvil_parser.proofs.stack.Stack.top.Goals as goal
@@ -15,7 +15,7 @@ got first frames place within is =
     absurd cc
 
 topped : (frames : List Frame) (result : Option (Bor Frame)) → option_copied result ≡ slice_get frames (length frames - 1)
-    → MatchOption result (frames_onto frames [] ≡ []) (λ frame. (below : List position.Frame) × (frames_onto frames [] ≡ frame_of frame.now ∷ below))
+    → MatchOption result (frames_onto frames [] ≡ []) (λ frame. (below : List states.Frame) × (frames_onto frames [] ≡ frame_of frame.now ∷ below))
 topped [] None is = refl
 topped [] (Some frame) is = absurd cc
 topped (first ∷ frames) None is = absurd (got first frames (length (first ∷ frames) - 1) (omega arith) is)

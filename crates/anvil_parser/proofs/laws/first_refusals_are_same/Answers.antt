@@ -1,6 +1,0 @@
--- The law is the lemma on first refusals.
-use Rattle.anvil_parser.proofs.Refusals.{first_refusals_same}
-use Rattle.anvil_parser.proofs.laws.first_refusals_are_same.Goals as goal
-
-pub returns : goal.returns
-returns c = first_refusals_same

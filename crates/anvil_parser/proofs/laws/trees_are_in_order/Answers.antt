@@ -1,6 +1,0 @@
--- The law is the lemma on the places that the parts of a tree pick.
-use Rattle.anvil_parser.proofs.InOrder.{in_order}
-use Rattle.anvil_parser.proofs.laws.trees_are_in_order.Goals as goal
-
-pub returns : goal.returns
-returns c = in_order

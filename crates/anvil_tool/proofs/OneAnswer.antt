@@ -1,0 +1,117 @@
+-- At most one answer has its cause.
+--
+-- The claim: from one stage of a form two ways of loading and going on lead to the same answer. The argument is by both ways
+-- together: where both load, the shelf tells the same bytes, so they reach the same stage; and a stage that refuses does not go
+-- on, a load that is too long gives no bytes, and behind the last stage there is no load.
+use Rattle.std.proofs.Common.{◌≡◌, ℕ, ◌<◌, ◌≤◌, List, [], ◌∷◌, ◌++◌, length, Option, Some, None, refl, sym, ap, ◌∙◌, subst, arith}
+use Rattle.anvil_tool.specs.declared.refusal.Refusal.{Refusal}
+use Rattle.anvil_tool.specs.declared.status.Status.{Status}
+use Rattle.anvil_tool.specs.declared.status.Status.TheVariants.{Done, Refused, Usage, TooLong}
+use Rattle.anvil_tool.specs.Form.{Form, Command, compile, Load, loads_of, usage_line}
+use Rattle.anvil_tool.specs.Refused.{refusal_line}
+use Rattle.anvil_tool.specs.Stages.{Stages, stages_of, stages_by}
+use Rattle.anvil_tool.specs.Answer.{Tells, Exceeds, Leads, here, on, too_long_line}
+use Rattle.anvil_tool.specs.Laws.{HasCause, of_words, of_length, of_stage, of_text, HasOneAnswer}
+use Rattle.anvil_tool.proofs.OneRefusal.{refused_once, plain_or_refused}
+
+-- a stage has one refusal at most, and does not go on where it has one
+pub record AreExact (stages : Stages) : Type 0 where
+  pub once : (loaded : List (List ℕ)) (one other : Refusal) → stages.refuses loaded one → stages.refuses loaded other → one ≡ other
+  pub apart : (loaded : List (List ℕ)) (refusal : Refusal) → stages.refuses loaded refusal → stages.goes_on loaded → ⊥
+
+compile_once : (operands loaded : List (List ℕ)) (one other : Refusal) → (stages_by compile operands).refuses loaded one → (stages_by compile operands).refuses loaded other → one ≡ other
+compile_once operands [] one other first second = absurd first
+compile_once operands (file ∷ []) one other first second = refused_once file one other first second
+compile_once operands (file ∷ next ∷ more) one other first second = absurd first
+
+compile_apart : (operands loaded : List (List ℕ)) (refusal : Refusal) → (stages_by compile operands).refuses loaded refusal → (stages_by compile operands).goes_on loaded → ⊥
+compile_apart operands [] refusal first plain = first
+compile_apart operands (file ∷ []) refusal first plain = plain_or_refused file refusal first plain
+compile_apart operands (file ∷ next ∷ more) refusal first plain = first
+
+exact : (command : Command) (operands : List (List ℕ)) → AreExact (stages_by command operands)
+exact compile operands = record { once = compile_once operands; apart = compile_apart operands }
+
+-- where a way ends: refused, too long, or behind the last stage
+data Stops (told : List ℕ → Option (List ℕ)) (stages : Stages) : List (List ℕ) → List Load → Status → List ℕ → Type 0 where
+  refuses : (loaded : List (List ℕ)) (rest : List Load) (refusal : Refusal) → stages.refuses loaded refusal → Stops told stages loaded rest Refused (refusal_line refusal)
+  exceeds : (loaded : List (List ℕ)) (load : Load) (rest : List Load) → stages.goes_on loaded → Exceeds (told load.name) load.limit
+      → Stops told stages loaded (load ∷ rest) TooLong (too_long_line load.name)
+  ends : (loaded : List (List ℕ)) → stages.goes_on loaded → Stops told stages loaded [] Done []
+
+module _ (told : List ℕ → Option (List ℕ)) (stages : Stages) (sound : AreExact stages) where
+  -- one stage stops in one way
+  stops_once : (loaded : List (List ℕ)) (rest : List Load) (one other : Status) (line said : List ℕ) → Stops told stages loaded rest one line
+      → Stops told stages loaded rest other said → (one ≡ other) × (line ≡ said)
+  stops_once loaded rest one other line said (refuses a b refusal first) (refuses c d found second) = (refl, ap refusal_line (sound.once loaded refusal found first second))
+  stops_once loaded rest one other line said (refuses a b refusal first) (exceeds c load d went past) = absurd (sound.apart loaded refusal first went)
+  stops_once loaded rest one other line said (refuses a b refusal first) (ends c went) = absurd (sound.apart loaded refusal first went)
+  stops_once loaded rest one other line said (exceeds a load b went past) (refuses c d found second) = absurd (sound.apart loaded found second went)
+  stops_once loaded rest one other line said (exceeds a load b went past) (exceeds c next d went_too past_too) = (refl, refl)
+  stops_once loaded rest one other line said (ends a went) (refuses c d found second) = absurd (sound.apart loaded found second went)
+  stops_once loaded rest one other line said (ends a went) (ends c went_too) = (refl, refl)
+
+  told_past : (told_bytes : Option (List ℕ)) (limit : ℕ) (bytes : List ℕ) → told_bytes ≡ Some bytes → length bytes ≤ limit → Exceeds told_bytes limit → ⊥
+  told_past told_bytes limit bytes is within past = let long : limit < length bytes = subst (λ it. Exceeds it limit) is past in omega (arith, long, within)
+
+  -- a stage that stops is not passed
+  stops_or_passes : (before : List (List ℕ)) (load : Load) (loads : List Load) (bytes : List ℕ) (one : Status) (line : List ℕ)
+      → Stops told stages before (load ∷ loads) one line → stages.goes_on before → Tells told load bytes → ⊥
+  stops_or_passes before load loads bytes one line (refuses a b refusal first) went tells = sound.apart before refusal first went
+  stops_or_passes before load loads bytes one line (exceeds a next b went_too past) went tells = told_past (told load.name) load.limit bytes tells.tells tells.within past
+
+  same_bytes : (load : Load) (bytes others : List ℕ) → Tells told load bytes → Tells told load others → others ≡ bytes
+  same_bytes load bytes others tells tells_too = let same : Some others ≡ Some bytes = sym tells_too.tells ∙ tells.tells in cc
+
+  -- two ways from one stage
+  one_way : (loaded found : List (List ℕ)) (rest left : List Load) (before : List (List ℕ)) (loads : List Load) (one other : Status) (line said : List ℕ)
+      → Leads (Tells told) stages.goes_on loaded rest before loads → Stops told stages loaded rest one line
+      → Leads (Tells told) stages.goes_on found left before loads → Stops told stages found left other said → (one ≡ other) × (line ≡ said)
+  one_way loaded found rest left before loads one other line said here stop here stop_too = stops_once before loads one other line said stop stop_too
+  one_way loaded found rest left before loads one other line said here stop (on a load later bytes went tells next) stop_too =
+      absurd (stops_or_passes before load later bytes one line stop went tells)
+  one_way loaded found rest left before loads one other line said (on a load later bytes went tells next) stop here stop_too =
+      absurd (stops_or_passes before load later bytes other said stop_too went tells)
+  one_way loaded found rest left before loads one other line said (on a load later bytes went tells next) stop (on b first more others went_too tells_too next_too) stop_too =
+      one_way loaded found rest left (before ++ bytes ∷ []) later one other line said next stop
+      (subst (λ it. Leads (Tells told) stages.goes_on found left (before ++ it ∷ []) later) (same_bytes load bytes others tells tells_too) next_too) stop_too
+
+-- the way of an answer with a cause
+record Way (told : List ℕ → Option (List ℕ)) (form : Form) (status : Status) (line : List ℕ) : Type 0 where
+  loaded : List (List ℕ)
+  rest : List Load
+  leads : Leads (Tells told) (stages_of form).goes_on loaded rest [] (loads_of form)
+  stops : Stops told (stages_of form) loaded rest status line
+
+way : (told : List ℕ → Option (List ℕ)) (form : Form) (status : Status) (line : List ℕ) → HasCause told (Some form) status line → Way told form status line
+way told form status line (of_length asked loaded long) = record {
+  loaded = loaded;
+  rest = long.load ∷ long.asked.later;
+  leads = long.asked.reached;
+  stops = exceeds loaded long.load long.asked.later long.asked.goes_on long.past;
+}
+way told form status line (of_stage asked refusal first) = record {
+  loaded = first.loaded;
+  rest = first.rest;
+  leads = first.reached;
+  stops = refuses first.loaded first.rest refusal first.refuses;
+}
+way told form status line (of_text asked loaded passes) = record {
+  loaded = loaded;
+  rest = [];
+  leads = passes.reached;
+  stops = ends loaded passes.goes_on;
+}
+
+without_form : (told : List ℕ → Option (List ℕ)) (status : Status) (line : List ℕ) → HasCause told None status line → (status ≡ Usage) × (line ≡ usage_line)
+without_form told status line of_words = (refl, refl)
+
+pub one_answer : HasOneAnswer
+one_answer told None one other line said first second =
+    let here = without_form told one line first in
+    let there = without_form told other said second in
+    (here.0 ∙ sym there.0, here.1 ∙ sym there.1)
+one_answer told (Some form) one other line said first second =
+    let here = way told form one line first in
+    let there = way told form other said second in
+    one_way told (stages_of form) (exact form.command form.operands) here.loaded there.loaded here.rest there.rest [] (loads_of form) one other line said here.leads here.stops there.leads there.stops

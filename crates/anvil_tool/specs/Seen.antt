@@ -1,0 +1,7 @@
+-- The command that the code reads, as a form.
+use Rattle.anvil_tool.specs.declared.words.Command.{Command}
+use Rattle.anvil_tool.specs.declared.words.Command.TheVariants.{Compile}
+use Rattle.anvil_tool.specs.Form.{Form, compile_form}
+
+abbrev pub form_seen : Command → Form
+form_seen (Compile file) = compile_form file.now

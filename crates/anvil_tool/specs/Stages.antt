@@ -1,0 +1,57 @@
+-- What a command does with the bytes of the files that it loads.
+--
+-- A form has one stage more than it has files. A stage has loaded the first so many of them, none at first: it
+-- refuses their bytes, or goes on, to the load of the next file, and behind the last one to the output. The bytes are
+-- listed in the order of the loads.
+use Rattle.std.specs.Prelude.{ℕ, List, [], ◌∷◌}
+use Rattle.anvil_tree.specs.Tree.{File}
+use Rattle.plain_file.specs.Plain.{Counter, IsPlainFile}
+use Rattle.anvil_tool.specs.declared.refusal.Refusal.{Refusal}
+use Rattle.anvil_tool.specs.Form.{Command, compile, Form}
+use Rattle.anvil_tool.specs.Output.{IsFileText, IsOutput}
+use Rattle.anvil_tool.specs.Refused.{IsRefused}
+
+-- what the stages of a command say of the bytes that they have
+pub record Stages : Type 1 where
+  pub refuses : List (List ℕ) → Refusal → Type 0
+  pub goes_on : List (List ℕ) → Type 0
+  -- behind the last stage: the text that is written
+  pub writes : List (List ℕ) → List ℕ → Type 0
+  -- a text that stops early, at a promise that is broken, and the line that says so
+  pub breaks : List (List ℕ) → List ℕ → List ℕ → Type 0
+
+-- `compile`: FILE has modules, or is refused.
+
+-- bytes that spell a plain file
+pub record IsPlainText (bytes : List ℕ) : Type 0 where
+  pub file : File
+  pub counters : List Counter
+  pub text : IsFileText bytes file
+  pub plain : IsPlainFile counters file
+
+abbrev pub compile_refuses : List (List ℕ) → Refusal → Type 0
+compile_refuses [] refusal = ⊥
+compile_refuses (file ∷ []) refusal = IsRefused file refusal
+compile_refuses (file ∷ other ∷ more) refusal = ⊥
+
+abbrev pub compile_goes_on : List (List ℕ) → Type 0
+compile_goes_on [] = Unit {0}
+compile_goes_on (file ∷ []) = IsPlainText file
+compile_goes_on (file ∷ other ∷ more) = ⊥
+
+abbrev pub compile_writes : List (List ℕ) → List ℕ → Type 0
+compile_writes [] text = ⊥
+compile_writes (file ∷ []) text = IsOutput file text
+compile_writes (file ∷ other ∷ more) text = ⊥
+
+-- The stages of each command, which may ask for the words of the form too.
+abbrev pub stages_by : Command → List (List ℕ) → Stages
+stages_by compile operands = record {
+  refuses = compile_refuses;
+  goes_on = compile_goes_on;
+  writes = compile_writes;
+  breaks = λ loaded text line. ⊥;
+}
+
+abbrev pub stages_of : Form → Stages
+stages_of form = stages_by form.command form.operands

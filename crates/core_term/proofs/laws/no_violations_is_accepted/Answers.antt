@@ -1,5 +1,0 @@
-use Rattle.core_term.proofs.NoViolations.{from_empty, to_empty}
-use Rattle.core_term.proofs.laws.no_violations_is_accepted.Goals as goal
-
-pub returns : goal.returns
-returns c = λ file. (from_empty file, to_empty file)

@@ -1,0 +1,6 @@
+-- The law of rows that fit.
+use Rattle.core_term.proofs.FittingRows.{inputs_fit}
+use Rattle.core_term.proofs.laws.rows_give_fitting_inputs.Goals as goal
+
+pub returns : goal.returns
+returns c = inputs_fit

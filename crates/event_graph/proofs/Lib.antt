@@ -1,0 +1,4 @@
+pub mod Drawn
+pub mod Early
+pub mod Preds
+pub mod Times

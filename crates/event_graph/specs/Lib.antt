@@ -1,0 +1,4 @@
+pub mod Event
+pub mod Forms
+pub mod Times
+pub mod Laws

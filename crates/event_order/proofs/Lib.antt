@@ -1,0 +1,5 @@
+pub mod Places
+pub mod Small
+pub mod Pairs
+pub mod Filled
+pub mod Next

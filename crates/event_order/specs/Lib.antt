@@ -1,0 +1,3 @@
+pub mod Lags
+pub mod Stored
+pub mod Order

@@ -1,0 +1,24 @@
+pub mod Along
+pub mod Upward
+pub mod Steps
+pub mod Early
+pub mod Inside
+pub mod Named
+pub mod Proper
+pub mod Way
+pub mod Sides
+pub mod Oppose
+pub mod Excluded
+pub mod OneTurn
+pub mod Reading
+pub mod InTable
+pub mod Once
+pub mod Twice
+pub mod Endings
+pub mod TextOrder
+pub mod TurnTimes
+pub mod Decided
+pub mod OnceTimes
+pub mod TwiceTimes
+pub mod Room
+mod Examples

@@ -1,0 +1,9 @@
+pub mod Owned
+pub mod Placed
+pub mod Table
+pub mod Nodes
+pub mod Graphs
+pub mod Sides
+pub mod TurnTimes
+pub mod Endings
+pub mod Room

@@ -1,4 +1,0 @@
-pub mod Wires
-pub mod Seen
-pub mod Outcomes
-pub mod View

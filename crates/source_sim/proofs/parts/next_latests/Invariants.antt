@@ -1,0 +1,14 @@
+-- The latest exchanges so far are those of the next cycle, the others are as they were, and the ends so far are numbers of the code.
+use Rattle.std.proofs.Common.{◌≡◌, ℕ, ◌<◌, take, drop, List, Some}
+use Rattle.std.specs.List.{slice_get}
+use Rattle.core_term.specs.Process.{LifeEnd}
+use Rattle.exchanges.specs.Next.{Bounded}
+use Rattle.sim_laws.specs.Stands.{next_latests as latests_next}
+use Rattle.source_sim.proofs.parts.next_latests.Given as goal
+
+abbrev pub invariant-loop-index : goal.invariant-loop-index
+invariant-loop-index l = record {
+  done : take l.index l.latests ≡ take l.index (latests_next l.exchanged l.exchanged l.lives l.drives l.fn.latests);
+  rest : drop l.index l.latests ≡ drop l.index l.fn.latests;
+  bounded : (port : ℕ) (life : List LifeEnd) → port < l.index → slice_get l.lives port ≡ Some life → Bounded life;
+}

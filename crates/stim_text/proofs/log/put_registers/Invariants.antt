@@ -1,0 +1,9 @@
+-- The fields of the registers so far were put whole.
+use Rattle.std.proofs.Common.{flat_map, take}
+use Rattle.std.specs.List.{enumerate_from}
+use Rattle.stim_text.specs.LogLine.{number_fields, gapped}
+use Rattle.stim_text.proofs.PutParts.{LinesPut}
+use Rattle.stim_text.proofs.log.put_registers.Given as goal
+
+abbrev pub invariant-loop-index : goal.invariant-loop-index
+invariant-loop-index g l = LinesPut (g.W.Sink.held l.fn.to) (g.W.Sink.held l.to) (g.W.Sink.faults l.fn.to) (g.W.Sink.faults l.to) (flat_map gapped (take l.index (enumerate_from l.before (number_fields l.regs l.numbers))))

@@ -1,0 +1,6 @@
+pub mod Fronts
+pub mod Stops
+pub mod NotEmitted
+pub mod Along
+pub mod LineCut
+pub mod ReadLines

@@ -1,0 +1,10 @@
+pub mod Fresh
+pub mod Filled
+pub mod FreshPort
+pub mod FilledText
+pub mod Begun
+pub mod BegunHeader
+pub mod BegunItems
+pub mod BegunClock
+pub mod Begins
+pub mod Whole

@@ -1,0 +1,13 @@
+pub mod Longer
+pub mod KeptDrafts
+pub mod Standing
+pub mod HeaderKept
+pub mod RegistersLonger
+pub mod DeclaredKept
+pub mod NetsLonger
+pub mod OutputsKept
+pub mod ClockKept
+pub mod StepsKeep
+pub mod ReadKeeps
+pub mod GoodKept
+pub mod Finishing

@@ -1,0 +1,16 @@
+pub mod Decided
+pub mod PiecesRead
+pub mod CutLoop
+pub mod GoodNames
+pub mod WidthsAt
+pub mod LinesRead
+pub mod Indices
+pub mod OperandsRead
+pub mod OpsRead
+pub mod SameTexts
+pub mod FixedText
+pub mod HeaderText
+pub mod ItemsText
+pub mod OutputsText
+pub mod ClockText
+pub mod TextKept

@@ -1,6 +1,0 @@
--- The law is the lemma of the one list.
-use Rattle.sv_reader.proofs.TextRead.{one_list}
-use Rattle.sv_reader.proofs.laws.has_one_list.Goals as goal
-
-pub returns : goal.returns
-returns c = one_list
