@@ -6,8 +6,6 @@
 mod classes;
 mod error;
 mod message;
-#[cfg(test)]
-mod tests;
 
 pub use anvil_lexer::Name;
 pub use anvil_tree::{File, Side};

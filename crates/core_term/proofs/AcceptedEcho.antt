@@ -85,15 +85,15 @@ rests_on : (u : Term) (a : Source) → RestsOn body u a → (u ≡ sending) × (
 rests_on u a r = go (places r.stands)
   where
     from_var : (e : Expr) → Var 0 ≡ e → Has (expr_sources 1 (sources_in (Recv 0 0 ∷ [])) e) a → a ≡ WireOf 0
-    from_var e k h = let P : Expr → Type 0 = λ z. Has (expr_sources 1 (sources_in (Recv 0 0 ∷ [])) z) a in elim (subst P (sym k) h) [ inl i ↦ i | inr i ↦ absurd i ]
+    from_var e k h = let Statement : Expr → Type 0 = λ z. Has (expr_sources 1 (sources_in (Recv 0 0 ∷ [])) z) a in elim (subst Statement (sym k) h) [ inl i ↦ i | inr i ↦ absurd i ]
 
     at : (v : Term) → u ≡ v → (vs : List Act) → r.scope ≡ vs → Uses (head v) r.value × Has (expr_sources (site (head v)) (sources_in vs) r.value) a
-    at v q vs w = let P : Term → Type 0 = λ z. Uses (head z) r.value in let Q : Term → List Act → Type 0 = λ z ws. Has (expr_sources (site (head z)) (sources_in ws) r.value) a in (subst P q r.uses, subst (λ z. Q z vs) q (subst (λ ws. Q u ws) w r.has))
+    at v q vs w = let next_Statement : Term → Type 0 = λ z. Uses (head z) r.value in let last_Statement : Term → List Act → Type 0 = λ z ws. Has (expr_sources (site (head z)) (sources_in ws) r.value) a in (subst next_Statement q r.uses, subst (λ z. last_Statement z vs) q (subst (λ ws. last_Statement u ws) w r.has))
 
     go : Place r.scope u → (u ≡ sending) × (a ≡ WireOf 0)
     go (at_first b c) = absurd (at body c [] b).0
     go (at_third b c) = absurd (at rest c _ b).0
-    go (at_second b c) = let k = at sending c (Recv 0 0 ∷ []) b in (c, from_var r.value k.0 k.1)
+    go (at_second b c) = let by_at = at sending c (Recv 0 0 ∷ []) b in (c, from_var r.value by_at.0 by_at.1)
 
 -- the forms of the text
 same_form : (l : Bool) (b c : Spot) → IsFormed (forms body) b (Same c) → HasForm body (point l b) (Same (point l c))
@@ -132,40 +132,40 @@ var_made =
 
 -- what the ends of lives are
 req_end : (m : ℕ) (e : LifeEnd) → m ≡ 0 → Has (life_of echo m) e → e ≡ Until 1
-req_end m e k h = let P : ℕ → Type 0 = λ z. Has (life_of echo z) e in elim (subst P k h) [ inl i ↦ i | inr i ↦ absurd i ]
+req_end m e k h = let Statement : ℕ → Type 0 = λ z. Has (life_of echo z) e in elim (subst Statement k h) [ inl i ↦ i | inr i ↦ absurd i ]
 
 accepted_body : (rule : Rule) (q r : ℕ) (claim : Claim) → Demands echo 0 body rule q r claim → Holds echo body claim
 accepted_body _ _ _ _ (made scope u y s k) = go (places s)
   where
     at : (v : Term) → u ≡ v → Reads (head v) y
-    at v q = let P : Term → Type 0 = λ z. Reads (head z) y in subst P q k
+    at v q = let next_Statement : Term → Type 0 = λ z. Reads (head z) y in subst next_Statement q k
 
     go : Place scope u → Precedes body (point false (End y)) (pos 0) (point false (Begin (site (head u))))
     go (at_first b c) = absurd (at body c)
     go (at_third b c) = absurd (at rest c)
-    go (at_second b c) = let i : y ≡ 0 = at sending c in rw (i, c) var_made
+    go (at_second b c) = let equal : y ≡ 0 = at sending c in rw (equal, c) var_made
 accepted_body _ _ _ _ (sets q r reg a b l) = absurd (no_set q reg a)
-accepted_body _ _ _ _ (receives q r m a b l) = let i = a_recv q m a in let j = a_recv r m b in absurd (omega (arith, i.0, j.0))
-accepted_body _ _ _ _ (sends q r m a b l) = let i = a_send q m a in let j = a_send r m b in absurd (omega (arith, i.0, j.0))
-accepted_body _ _ _ _ (sends_next q r m a b) = let i = a_send q m a in let j = a_send r m b in rw (i.0, i.1, j.0) last_next
-accepted_body _ _ _ _ (wire_within u q m k s a e) = let i = req_end m (Cycles k) (a_recv q m a).1 e in absurd cc
+accepted_body _ _ _ _ (receives q r m a b l) = let by_a_recv = a_recv q m a in let next_by_a_recv = a_recv r m b in absurd (omega (arith, by_a_recv.0, next_by_a_recv.0))
+accepted_body _ _ _ _ (sends q r m a b l) = let by_a_send = a_send q m a in let next_by_a_send = a_send r m b in absurd (omega (arith, by_a_send.0, next_by_a_send.0))
+accepted_body _ _ _ _ (sends_next q r m a b) = let last_by_a_send = a_send q m a in let other_by_a_send = a_send r m b in rw (last_by_a_send.0, last_by_a_send.1, other_by_a_send.0) last_next
+accepted_body _ _ _ _ (wire_within u q m k s a e) = let by_req_end = req_end m (Cycles k) (a_recv q m a).1 e in absurd cc
 accepted_body _ _ _ _ (wire_until u q m n w s a e b) =
-    let i = a_recv q m a in
-    let z = rests_on u (WireOf q) s in
-    let y = req_end m (Until n) i.1 e in
+    let last_by_a_recv = a_recv q m a in
+    let by_rests_on = rests_on u (WireOf q) s in
+    let next_by_req_end = req_end m (Until n) last_by_a_recv.1 e in
     let n_is : n ≡ 1 = cc in
     let w_is : w ≡ 1 = elim (on_port w n b) [ inl o ↦ absurd (omega (arith, o.1)) | inr o ↦ o.0 ] in
-    rw (z.0, i.0, w_is) (inr (inr last_here, last_end))
-accepted_body _ _ _ _ (set_elsewhere u q r i w other s is different set) = let z = rests_on u (RegOf q r) s in absurd cc
-accepted_body _ _ _ _ (set_here u q r w s set) = let z = rests_on u (RegOf q r) s in absurd cc
-accepted_body _ _ _ _ (choice u q s) = let z = rests_on u (ChoiceOf q) s in absurd cc
+    rw (by_rests_on.0, last_by_a_recv.0, w_is) (inr (inr last_here, last_end))
+accepted_body _ _ _ _ (set_elsewhere u q r i w other s is different set) = let next_by_rests_on = rests_on u (RegOf q r) s in absurd cc
+accepted_body _ _ _ _ (set_here u q r w s set) = let last_by_rests_on = rests_on u (RegOf q r) s in absurd cc
+accepted_body _ _ _ _ (choice u q s) = let other_by_rests_on = rests_on u (ChoiceOf q) s in absurd cc
 
 thread_is : (j : ℕ) (thread : Thread) → IsThread echo.threads j thread → (j ≡ 0) × (record { body = body; count = 3 } ≡ thread)
 thread_is zero thread k = (refl, k)
 thread_is (suc j) thread k = elim k [ ]
 
 on_thread : (P : ℕ → Thread → Type 0) → P 0 (record { body = body; count = 3 }) → (j : ℕ) (thread : Thread) → IsThread echo.threads j thread → P j thread
-on_thread P k j thread is = let z = thread_is j thread is in let y : P 0 thread = subst (λ t. P 0 t) z.1 k in rw z.0 y
+on_thread P k j thread is = let by_thread_is = thread_is j thread is in let the_p : P 0 thread = subst (λ t. P 0 t) by_thread_is.1 k in rw by_thread_is.0 the_p
 
 pub is_accepted : KeepsDemands echo
 is_accepted = on_thread (λ j thread. Meets echo j thread.body) accepted_body
@@ -183,10 +183,10 @@ is_process = record {
   counted = on_thread (λ j thread. thread.count ≡ size thread.body) refl;
   takes_time = on_thread (λ j thread. IsTail thread.body) (omega arith);
   cycles = on_thread (λ j thread. CyclesTakeTime thread.body) (tt, (tt, omega arith));
-  lasts = λ m k e. elim (life_is m (Cycles k) e) [ inl i ↦ let z = i.1 in absurd cc | inr i ↦ let z = i.1 in let k_is : k ≡ 1 = cc in omega arith ];
-  same_endpoint = λ m n e. elim (life_is m (Until n) e) [ inl i ↦ let z = i.1 in let n_is : n ≡ 1 = cc in rw (i.0, n_is) refl | inr i ↦ let z = i.1 in absurd cc ];
-  receives = λ j thread w m is a. on_thread (λ j thread. HasAct thread.body w (λ a. Receives a m) → is_received echo m ≡ true) (λ a. let z = (a_recv w m a).1 in rw z refl) j thread is a;
-  sends = λ j thread w m is a. on_thread (λ j thread. HasAct thread.body w (λ a. Sends a m) → is_received echo m ≡ false) (λ a. let z = (a_send w m a).1 in rw z refl) j thread is a;
+  lasts = λ m k e. elim (life_is m (Cycles k) e) [ inl i ↦ let part = i.1 in absurd cc | inr i ↦ let next_part = i.1 in let k_is : k ≡ 1 = cc in omega arith ];
+  same_endpoint = λ m n e. elim (life_is m (Until n) e) [ inl i ↦ let last_part = i.1 in let n_is : n ≡ 1 = cc in rw (i.0, n_is) refl | inr i ↦ let other_part = i.1 in absurd cc ];
+  receives = λ j thread w m is a. on_thread (λ j thread. HasAct thread.body w (λ a. Receives a m) → is_received echo m ≡ true) (λ a. let by_a_recv = (a_recv w m a).1 in rw by_a_recv refl) j thread is a;
+  sends = λ j thread w m is a. on_thread (λ j thread. HasAct thread.body w (λ a. Sends a m) → is_received echo m ≡ false) (λ a. let by_a_send = (a_send w m a).1 in rw by_a_send refl) j thread is a;
   one_talker = λ i j thread thread' w w' m m' is is' a b e. (thread_is i thread is).0 ∙ sym (thread_is j thread' is').0;
   one_setter = λ i j thread thread' w w' r is is' a b. (thread_is i thread is).0 ∙ sym (thread_is j thread' is').0;
 }

@@ -128,20 +128,20 @@ module _ (p : Process) (process : IsProcess p) (accepted : KeepsDemands p) (inpu
       go (ChoiceOf q) s k = elim k [ ]
       go (WireOf q) s k =
           let recv : Begun inputs registers thread.body turn q = record { scope = k.1.0; begin = k.1.1; term = k.1.2; runs = k.1.3 } in
-          let n = process.numbered j thread is in
-          let side : is_received p m ≡ true = process.receives j thread q m is (begun_act inputs registers thread.body n (λ a. Receives a m) turn q recv (rw k.1.4 refl)) in
+          let by_numbered = process.numbered j thread is in
+          let side : is_received p m ≡ true = process.receives j thread q m is (begun_act inputs registers thread.body by_numbered (λ a. Receives a m) turn q recv (rw k.1.4 refl)) in
           let exchanging = exchange_of inputs registers p process m t j thread is turn q recv (rw k.1.4 refl) (end_found p process inputs registers j thread is turn q recv t k.0) in
           let life = safe_run.used_within_life j turn place c m t (record { thread = thread; is = is; act = b; expr = e; uses = uses; in_use = in_cycle; has = has }) in
-          let z : data_wire p inputs registers m c ≡ data_wire p inputs registers m t = promised m side t c exchanging (omega arith) life in
+          let equal : data_wire p inputs registers m c ≡ data_wire p inputs registers m t = promised m side t c exchanging (omega arith) life in
           let at : (v : ℕ) → data_wire p inputs registers m v ≡ inputs.data_at m v = λ v. rw side refl in
-          sym (at c) ∙ (z ∙ at t)
+          sym (at c) ∙ (equal ∙ at t)
 
   -- a register that was read is what it was
   register_fresh : (c : ℕ) → c < inputs.count → (j : ℕ) (thread : Thread) (is : IsThread p.threads j thread) (turn place : ℕ) (b : Begun inputs registers thread.body turn place) (e : Expr) → Uses (head b.term) e → InUse p inputs registers b.scope b.begin (head b.term) c
       → (r t : ℕ) → Has (value registers b.scope b.begin e).atoms (Register r t) → registers c r ≡ registers t r
   register_fresh c short j thread is turn place b e uses in_cycle r t has =
-      let l : t ≤ b.begin = atom_by p process inputs registers j thread is turn place b e (Register r t) has in
-      let m = (in_use_from p process inputs registers j thread is turn place c b in_cycle).0 in
+      let at_most : t ≤ b.begin = atom_by p process inputs registers j thread is turn place b e (Register r t) has in
+      let by_in_use_from = (in_use_from p process inputs registers j thread is turn place c b in_cycle).0 in
       let e' : t + (c - t) ≡ c = omega arith in
       ap (λ z. registers z r) (sym e') ∙ steady inputs registers p process history r t (c - t) (omega arith) (no_set (sym e'))
     where
@@ -158,21 +158,21 @@ module _ (p : Process) (process : IsProcess p) (accepted : KeepsDemands p) (inpu
       r = rests p process inputs registers j thread is turn place b e uses (Choice q t) has
 
       l : t ≤ c
-      l = let y : t ≤ b.begin = atom_by p process inputs registers j thread is turn place b e (Choice q t) has in let z = (in_use_from p process inputs registers j thread is turn place c b in_cycle).0 in omega arith
+      l = let at_most : t ≤ b.begin = atom_by p process inputs registers j thread is turn place b e (Choice q t) has in let next_by_in_use_from = (in_use_from p process inputs registers j thread is turn place c b in_cycle).0 in omega arith
 
       none_later : (i : ℕ) (variables : ℕ → Outcome) (t' : ℕ) (u : Term) → Again j thread.body i q ≡ Runs variables t' u → t < t' → t' ≤ c → ⊥
       none_later i variables t' u k y z =
-          let o = (same.fates j thread is i q).back variables t' u k z in
-          safe_side p process accepted inputs registers j turn place c q t (record { thread = thread; is = is; act = b; expr = e; uses = uses; in_use = in_cycle; has = has }) i (record { scope = o.0; begin = t'; term = u; runs = o.1 }) y z
+          let by_fates = (same.fates j thread is i q).back variables t' u k z in
+          safe_side p process accepted inputs registers j turn place c q t (record { thread = thread; is = is; act = b; expr = e; uses = uses; in_use = in_cycle; has = has }) i (record { scope = by_fates.0; begin = t'; term = u; runs = by_fates.1 }) y z
 
       go : (a : Source) → RestsOn thread.body b.term a → Matches inputs (sees registers) (run_of inputs (sees registers) thread.body turn) a (Choice q t) → run.side j q c ≡ choice_of j thread is q t
       go (WireOf q') s k = elim k [ ]
       go (RegOf q' n) s k = elim k [ ]
       go (ChoiceOf q') s k =
-          let P : ℕ → Type 0 = λ z. run_of inputs (sees registers) thread.body turn z ≡ Runs k.2.0 t k.2.1 in
-          let here : Original thread.body turn q ≡ Runs k.2.0 t k.2.1 = subst P (sym k.0) k.2.3 in
-          let o = (same.fates j thread is turn q).there k.2.0 t k.2.1 here l in
-          (again.decides j thread is).latest turn q c short (record { scope = o.0; begin = t; term = k.2.1; runs = o.1 }) k.2.2 k.2.4 l
+          let Statement : ℕ → Type 0 = λ z. run_of inputs (sees registers) thread.body turn z ≡ Runs k.2.0 t k.2.1 in
+          let here : Original thread.body turn q ≡ Runs k.2.0 t k.2.1 = subst Statement (sym k.0) k.2.3 in
+          let next_by_fates = (same.fates j thread is turn q).there k.2.0 t k.2.1 here l in
+          (again.decides j thread is).latest turn q c short (record { scope = next_by_fates.0; begin = t; term = k.2.1; runs = next_by_fates.1 }) k.2.2 k.2.4 l
           (λ i a. none_later i a.scope a.begin a.term a.runs)
           ∙ same.decided j thread is turn q k.2.0 t k.2.1 k.2.2 here k.2.4 l
 
@@ -180,9 +180,9 @@ module _ (p : Process) (process : IsProcess p) (accepted : KeepsDemands p) (inpu
   pub use_again : (c : ℕ) → c < inputs.count → Same c → Promised c → (j : ℕ) (thread : Thread) (is : IsThread p.threads j thread) (turn place : ℕ) (b : Begun inputs registers thread.body turn place) (e : Expr) → Uses (head b.term) e → InUse p inputs registers b.scope b.begin (head b.term) c
       → (vs : List Act) × Stands [] thread.body vs b.term × (again_at inputs run j c vs e ≡ (value registers b.scope b.begin e).number)
   use_again c short same promised j thread is turn place b e uses in_cycle =
-      let z = value_again inputs thread.body (process.numbered j thread is) (process.takes_time j thread is) registers (made_of j thread is) (choices_of j thread is) (choice_of j thread is) (chose_is inputs registers thread.body (process.numbered j thread is) (process.takes_time j thread is))
+      let by_value_again = value_again inputs thread.body (process.numbered j thread is) (process.takes_time j thread is) registers (made_of j thread is) (choices_of j thread is) (choice_of j thread is) (chose_is inputs registers thread.body (process.numbered j thread is) (process.takes_time j thread is))
       run.registers (run.decision j) (run.side j) (again.decides j thread is) (sight inputs run.registers (run.side j) c) turn place b.scope b.begin b.term e b.runs (λ y m. uses_reads (head b.term) e y uses m) in
-      (z.0, z.1, z.2 (all_fresh _ _ fresh))
+      (by_value_again.0, by_value_again.1, by_value_again.2 (all_fresh _ _ fresh))
     where
       fresh : (a : Atom) → Has (value registers b.scope b.begin e).atoms a → IsFresh (sight inputs run.registers (run.side j) c) inputs.data_at registers (choice_of j thread is) a
       fresh (Wire m t) has = wire_fresh c promised j thread is turn place b e uses in_cycle m t has
@@ -226,33 +226,33 @@ module _ (p : Process) (process : IsProcess p) (accepted : KeepsDemands p) (inpu
         where
           none : (j : ℕ) (thread : Thread) → IsThread p.threads j thread → (turn place : ℕ) (b : Begins inputs run j thread.body turn place) → Sets (head b.term) r → b.begin ≡ u → ⊥
           none j thread is turn place b sets now =
-              let o = (same.fates j thread is turn place).back b.scope b.begin b.term b.runs (omega arith) in
-              let y = is_written inputs registers p process r u j thread is turn place (record { scope = o.0; begin = b.begin; term = b.term; runs = o.1 }) sets now in
-              let z : false ≡ true = sym (ap has e) ∙ y in absurd cc
+              let by_fates = (same.fates j thread is turn place).back b.scope b.begin b.term b.runs (omega arith) in
+              let by_is_written = is_written inputs registers p process r u j thread is turn place (record { scope = by_fates.0; begin = b.begin; term = b.term; runs = by_fates.1 }) sets now in
+              let decided : false ≡ true = sym (ap has e) ∙ by_is_written in absurd cc
       go (Some v) e =
-          let w = written_is inputs registers p.threads r u v e in
-          let now : w.act.begin ≡ u = w.now in
-          let o = (same.fates w.j w.thread w.is w.turn w.place).there w.act.scope w.act.begin w.act.term w.act.runs (omega arith) in
-          let b : Begins inputs run w.j w.thread.body w.turn w.place = record { scope = o.0; begin = w.act.begin; term = w.act.term; runs = o.1 } in
-          let f = use_again u short same promised w.j w.thread w.is w.turn w.place w.act w.expr w.uses (set_in_use w.act.scope w.act.begin u r (head w.act.term) w.sets (sym now)) in
-          let y = again.written w.j w.thread w.is w.turn w.place b f.0 f.1 r w.expr w.sets w.uses (greatest w) in
-          let z : run.registers (u + 1) r ≡ again_at inputs run w.j u f.0 w.expr = subst (λ n. run.registers (n + 1) r ≡ again_at inputs run w.j n f.0 w.expr) now y in
-          z ∙ (f.2 ∙ (w.number ∙ sym (step ∙ ap (λ o. get_else o (registers u r)) e)))
+          let by_written_is = written_is inputs registers p.threads r u v e in
+          let now : by_written_is.act.begin ≡ u = by_written_is.now in
+          let next_by_fates = (same.fates by_written_is.j by_written_is.thread by_written_is.is by_written_is.turn by_written_is.place).there by_written_is.act.scope by_written_is.act.begin by_written_is.act.term by_written_is.act.runs (omega arith) in
+          let the_begins : Begins inputs run by_written_is.j by_written_is.thread.body by_written_is.turn by_written_is.place = record { scope = next_by_fates.0; begin = by_written_is.act.begin; term = by_written_is.act.term; runs = next_by_fates.1 } in
+          let by_use_again = use_again u short same promised by_written_is.j by_written_is.thread by_written_is.is by_written_is.turn by_written_is.place by_written_is.act by_written_is.expr by_written_is.uses (set_in_use by_written_is.act.scope by_written_is.act.begin u r (head by_written_is.act.term) by_written_is.sets (sym now)) in
+          let by_written = again.written by_written_is.j by_written_is.thread by_written_is.is by_written_is.turn by_written_is.place the_begins by_use_again.0 by_use_again.1 r by_written_is.expr by_written_is.sets by_written_is.uses (greatest by_written_is) in
+          let equal : run.registers (u + 1) r ≡ again_at inputs run by_written_is.j u by_use_again.0 by_written_is.expr = subst (λ n. run.registers (n + 1) r ≡ again_at inputs run by_written_is.j n by_use_again.0 by_written_is.expr) now by_written in
+          equal ∙ (by_use_again.2 ∙ (by_written_is.number ∙ sym (step ∙ ap (λ next_by_fates. get_else next_by_fates (registers u r)) e)))
         where
           greatest : (w : Writes inputs registers p.threads r u v) → (turn' place' : ℕ) (a : Begins inputs run w.j w.thread.body turn' place') → Sets (head a.term) r → a.begin ≡ w.act.begin → place' ≤ w.place
           greatest w turn' place' a sets k =
               let now : w.act.begin ≡ u = w.now in
-              let o = (same.fates w.j w.thread w.is turn' place').back a.scope a.begin a.term a.runs (omega arith) in
-              let z = safe_set p process accepted inputs registers w.j w.j w.thread w.thread w.is w.is turn' place' w.turn w.place r (record { scope = o.0; begin = a.begin; term = a.term; runs = o.1 }) w.act sets w.sets k in
-              let i : place' ≡ w.place = z.2 in omega arith
+              let by_fates = (same.fates w.j w.thread w.is turn' place').back a.scope a.begin a.term a.runs (omega arith) in
+              let by_safe_set = safe_set p process accepted inputs registers w.j w.j w.thread w.thread w.is w.is turn' place' w.turn w.place r (record { scope = by_fates.0; begin = a.begin; term = a.term; runs = by_fates.1 }) w.act sets w.sets k in
+              let next_equal : place' ≡ w.place = by_safe_set.2 in omega arith
 
   abbrev RegistersTo : ℕ → Type 0
   RegistersTo c = (s r : ℕ) → s ≤ c → run.registers s r ≡ registers s r
 
   same_up : (c s : ℕ) (w w' : Fate) → s ≤ c → SameFate c w w' → SameFate s w w'
   same_up c s w w' l k = record {
-    there = λ variables b u e m. let z = k.there variables b u e (omega arith) in (z.0, z.1, λ y. record { there = λ d v n q. (z.2 y).there d v (omega arith) q; back = λ d v n q. (z.2 y).back d v (omega arith) q });
-    back = λ variables b u e m. let z = k.back variables b u e (omega arith) in (z.0, z.1, λ y. record { there = λ d v n q. (z.2 y).there d v (omega arith) q; back = λ d v n q. (z.2 y).back d v (omega arith) q });
+    there = λ variables b u e m. let by_there = k.there variables b u e (omega arith) in (by_there.0, by_there.1, λ y. record { there = λ d v n q. (by_there.2 y).there d v (omega arith) q; back = λ d v n q. (by_there.2 y).back d v (omega arith) q });
+    back = λ variables b u e m. let by_back = k.back variables b u e (omega arith) in (by_back.0, by_back.1, λ y. record { there = λ d v n q. (by_back.2 y).there d v (omega arith) q; back = λ d v n q. (by_back.2 y).back d v (omega arith) q });
   }
 
   -- an `if` of cycle c decides alike, where those before it in its turn do
@@ -279,31 +279,31 @@ module _ (p : Process) (process : IsProcess p) (accepted : KeepsDemands p) (inpu
   decide_at zero c short promised registers_same earlier j thread is i q less variables variables' s u f e e' k l before = absurd (omega arith)
   decide_at (suc n) c short promised registers_same earlier j thread is i q less variables variables' s u f e e' k l before =
       go (nat_lt s c) refl (λ a t variables'' v g m o d y.
-      let z = (before a m).there variables'' t v d o in
-      decide_at n c short promised registers_same earlier j thread is i a (omega arith) variables'' z.0 t v g d z.1 y o (λ a' m'. before a' (omega arith)))
+      let by_before = (before a m).there variables'' t v d o in
+      decide_at n c short promised registers_same earlier j thread is i a (omega arith) variables'' by_before.0 t v g d by_before.1 y o (λ a' m'. before a' (omega arith)))
     where
       go : (b : Bool) → nat_lt s c ≡ b → ((a t : ℕ) (variables'' : ℕ → Outcome) (v : Term) (g : Expr) → a < q → t ≤ c → Original thread.body i a ≡ Runs variables'' t v → Asks (head v) g → run.decision j a t ≡ choice_of j thread is a t) → run.decision j q s ≡ choice_of j thread is q s
-      go true z known = let m : s < c = grind (arith, nat_tests) in (earlier s m).decided j thread is i q variables s u f e k (omega arith)
+      go true z known = let is_less : s < c = grind (arith, nat_tests) in (earlier s is_less).decided j thread is i q variables s u f e k (omega arith)
       go false z known =
-          let m : c ≤ s = grind (arith, nat_tests) in
-          let y : s ≡ c = omega arith in
-          let P : ℕ → Type 0 = λ w. Original thread.body i q ≡ Runs variables w u in
-          let Q : ℕ → Type 0 = λ w. Again j thread.body i q ≡ Runs variables' w u in
-          let R : ℕ → Type 0 = λ w. run.decision j q w ≡ choice_of j thread is q w in
-          subst R (sym y) (decide_now c short promised registers_same earlier j thread is i q variables variables' u f (subst P y e) (subst Q y e') k before known)
+          let at_most : c ≤ s = grind (arith, nat_tests) in
+          let equal : s ≡ c = omega arith in
+          let Statement : ℕ → Type 0 = λ w. Original thread.body i q ≡ Runs variables w u in
+          let next_Statement : ℕ → Type 0 = λ w. Again j thread.body i q ≡ Runs variables' w u in
+          let last_Statement : ℕ → Type 0 = λ w. run.decision j q w ≡ choice_of j thread is q w in
+          subst last_Statement (sym equal) (decide_now c short promised registers_same earlier j thread is i q variables variables' u f (subst Statement equal e) (subst next_Statement equal e') k before known)
 
   -- one cycle on
   registers_to : (c : ℕ) → c < inputs.count → Promised c → ((s : ℕ) → s < c → Same s) → RegistersTo c
-  registers_to zero short promised earlier s r l = let z : s ≡ 0 = omega arith in ap (λ n. run.registers n r) z ∙ (again.reset r ∙ (sym (history.reset r) ∙ ap (λ n. registers n r) (sym z)))
+  registers_to zero short promised earlier s r l = let next_equal : s ≡ 0 = omega arith in ap (λ n. run.registers n r) next_equal ∙ (again.reset r ∙ (sym (history.reset r) ∙ ap (λ n. registers n r) (sym next_equal)))
   registers_to (suc u) short promised earlier s r l = go (nat_lt s (suc u)) refl
     where
       go : (b : Bool) → nat_lt s (suc u) ≡ b → run.registers s r ≡ registers s r
-      go true e = let m : s < suc u = grind (arith, nat_tests) in (earlier s m).registers_same s r (omega arith)
+      go true e = let next_is_less : s < suc u = grind (arith, nat_tests) in (earlier s next_is_less).registers_same s r (omega arith)
       go false e =
-          let m : suc u ≤ s = grind (arith, nat_tests) in
-          let z : s ≡ u + 1 = omega arith in
-          let y = next_registers u (omega arith) (earlier u (omega arith)) (λ m' side t v exchanging k life. promised m' side t v exchanging (omega arith) life) r in
-          ap (λ n. run.registers n r) z ∙ (y ∙ ap (λ n. registers n r) (sym z))
+          let next_at_most : suc u ≤ s = grind (arith, nat_tests) in
+          let last_equal : s ≡ u + 1 = omega arith in
+          let by_next_registers = next_registers u (omega arith) (earlier u (omega arith)) (λ m' side t v exchanging k life. promised m' side t v exchanging (omega arith) life) r in
+          ap (λ n. run.registers n r) last_equal ∙ (by_next_registers ∙ ap (λ n. registers n r) (sym last_equal))
 
   step : (c : ℕ) → c < inputs.count → Promised c → ((s : ℕ) → s < c → Same s) → Same c
   step c short promised earlier = record { registers_same = registers_same; fates = fates; decided = decided }
@@ -323,8 +323,8 @@ module _ (p : Process) (process : IsProcess p) (accepted : KeepsDemands p) (inpu
 
       decided : (j : ℕ) (thread : Thread) (is : IsThread p.threads j thread) (i q : ℕ) (variables : ℕ → Outcome) (s : ℕ) (u : Term) (f : Expr) → Original thread.body i q ≡ Runs variables s u → Asks (head u) f → s ≤ c → run.decision j q s ≡ choice_of j thread is q s
       decided j thread is i q variables s u f e k l =
-          let z = (fates j thread is i q).there variables s u e l in
-          decide_at (suc q) c short promised registers_same earlier j thread is i q (omega arith) variables z.0 s u f e z.1 k l (λ a m. fates j thread is i a)
+          let by_fates = (fates j thread is i q).there variables s u e l in
+          decide_at (suc q) c short promised registers_same earlier j thread is i q (omega arith) variables by_fates.0 s u f e by_fates.1 k l (λ a m. fates j thread is i a)
 
   -- in each cycle up to which the promises are kept
   up_to : (n c : ℕ) → c < n → c < inputs.count → Promised c → Same c

@@ -14,9 +14,9 @@ use Rattle.core_term.proofs.SafeRun.{safe}
 pub nth_of : (procs : List CoreProc) (i : ℕ) (p : Process) → IsNth (file_of procs) i p → (proc : CoreProc) × Has procs proc × (process_in proc ≡ p)
 nth_of [] i p k = elim k [ ]
 nth_of (proc ∷ procs) zero p k = (proc, inl refl, k)
-nth_of (proc ∷ procs) (suc i) p k = let z = nth_of procs i p k in (z.0, inr z.1, z.2)
+nth_of (proc ∷ procs) (suc i) p k = let by_nth_of = nth_of procs i p k in (by_nth_of.0, inr by_nth_of.1, by_nth_of.2)
 
 pub all_safe : (procs : List CoreProc) → AllStand procs → HasNoViolations (file_of procs) → AllRunSafely (file_of procs)
 all_safe procs stand empty i p nth inputs registers history =
-    let z = nth_of procs i p nth in
-    safe p (subst IsProcess z.2 (stand z.0 z.1)) (from_empty (file_of procs) empty i p nth) inputs registers
+    let next_by_nth_of = nth_of procs i p nth in
+    safe p (subst IsProcess next_by_nth_of.2 (stand next_by_nth_of.0 next_by_nth_of.1)) (from_empty (file_of procs) empty i p nth) inputs registers

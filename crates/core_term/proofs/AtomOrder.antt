@@ -25,11 +25,11 @@ pub less_first : (one other : SourceAtom) → order.ghosts.cmp one other ≡ Les
 less_first (Wire s) (Wire t) k = inr (refl, inl (less_number s t k))
 less_first (Wire s) (Reg t q) k = inl (omega arith)
 less_first (Wire s) (Choice t) k = inl (omega arith)
-less_first (Reg s r) (Wire t) k = let z : Greater ≡ Less = k in absurd cc
+less_first (Reg s r) (Wire t) k = let equal : Greater ≡ Less = k in absurd cc
 less_first (Reg s r) (Reg t q) k = inr (refl, less_pair s t r q (nat_cmp s t) (ranks s t) k)
 less_first (Reg s r) (Choice t) k = inl (omega arith)
-less_first (Choice s) (Wire t) k = let z : Greater ≡ Less = k in absurd cc
-less_first (Choice s) (Reg t q) k = let z : Greater ≡ Less = k in absurd cc
+less_first (Choice s) (Wire t) k = let next_equal : Greater ≡ Less = k in absurd cc
+less_first (Choice s) (Reg t q) k = let last_equal : Greater ≡ Less = k in absurd cc
 less_first (Choice s) (Choice t) k = inr (refl, inl (less_number s t k))
 
 pub equal_same : (one other : SourceAtom) → equality.ghosts.eq one other ≡ true → one ≡ other

@@ -114,8 +114,8 @@ mutual
       let first = each_length pick scope t in
       let second = each_length pick scope u in
       omega (arith, whole, first, second)
-  each_length_in pick scope (term.When p e t) = let z = each_length pick scope t in omega (arith, z)
-  each_length_in pick scope (term.Block p t) = let z = each_length pick scope t in omega (arith, z)
+  each_length_in pick scope (term.When p e t) = let by_each_length = each_length pick scope t in omega (arith, by_each_length)
+  each_length_in pick scope (term.Block p t) = let next_by_each_length = each_length pick scope t in omega (arith, next_by_each_length)
   each_length_in pick scope (term.Cycle p n) = refl
   each_length_in pick scope (term.Set p r e) = refl
   each_length_in pick scope (term.Send p m e) = refl
@@ -138,9 +138,9 @@ KnowsAll table scope = KnowsBelow table (length table) scope
 knows_on : (table more : Table) (scope : List Act) → KnowsAll table scope → KnowsAll (table ++ more) scope
 knows_on table more scope knows y in_scope =
     let here = knows y in_scope in
-    let l = here.inside in
+    let by_inside = here.inside in
     let longer : length (table ++ more) ≡ length table + length more = length-append table more in
-    record { inside = omega (arith, l, longer); row = subst (λ row. AreAtoms row (sources_in scope y)) (sym (stays table more y l)) here.row }
+    record { inside = omega (arith, by_inside, longer); row = subst (λ row. AreAtoms row (sources_in scope y)) (sym (stays table more y by_inside)) here.row }
 
 -- what an act or a term adds: exact rows for its acts, and the row of its value
 pub record Adds (scope : List Act) (table new : Table) (from : List (List Source)) (last : ℕ) (value : List Source) : Type 0 where
@@ -164,10 +164,10 @@ expr_same widths table low scope knows p (expr.Choose' q c q' a q'' b) inside =
     (both _ _ _ _ (expr_same widths table low scope knows p a (λ y m. inside y (inr (inl m)))) (expr_same widths table low scope knows p b (λ y m. inside y (inr (inr m)))))
 
 pub bind_same : (variables : ℕ → List Source) (p y : ℕ) (from : List Source) → y ≡ p → bind_sources variables p from y ≡ from
-bind_same variables p y from is = let k : (y == p) ≡ true = grind (arith, nat_tests) in rw k refl
+bind_same variables p y from is = let decided : (y == p) ≡ true = grind (arith, nat_tests) in rw decided refl
 
 pub bind_other : (variables : ℕ → List Source) (p y : ℕ) (from : List Source) → y < p → bind_sources variables p from y ≡ variables y
-bind_other variables p y from below = let k : (y == p) ≡ false = grind (arith, nat_tests) in rw k refl
+bind_other variables p y from below = let next_decided : (y == p) ≡ false = grind (arith, nat_tests) in rw next_decided refl
 
 -- the site of the code's act
 site_of_act : (widths : Widths) (s : ℕ) (k : CoreKind) → site (act_of widths s k) ≡ s
@@ -195,12 +195,12 @@ knows_next scope a table new from s is_site is_next knows adds y (inl is) =
     }
 knows_next scope a table new from s is_site is_next knows adds y (inr in_scope) =
     let here = knows y in_scope in
-    let l = here.inside in
-    let below : y < site a = omega (arith, l, is_site, is_next) in
+    let by_inside = here.inside in
+    let below : y < site a = omega (arith, by_inside, is_site, is_next) in
     let value = bind_other (sources_in scope) (site a) y (act_sources (sources_in scope) a) below in
     let kept = knows_on table adds.more scope knows y in_scope in
-    let P : Table → Type 0 = λ t. Knows t (length t) scope y in
-    let still : Knows new (length new) scope y = subst P (sym adds.is) kept in
+    let Statement : Table → Type 0 = λ t. Knows t (length t) scope y in
+    let still : Knows new (length new) scope y = subst Statement (sym adds.is) kept in
     record { inside = still.inside; row = subst (AreAtoms (row_at new y)) (sym value) still.row }
 
 -- how many rows an act or a term adds
@@ -266,18 +266,18 @@ next_numbered : (widths : Widths) (scope : List Act) (table : Table) (s : ℕ) (
     → Adds scope table (add_value table s k) (each_act_in act_sources (sources_in scope) (act_of widths s k)) s (act_sources (sources_in scope) (act_of widths s k))
     → Numbered (act_of widths s k ∷ scope) (length table + act_size (act_of widths s k)) t → Numbered (act_of widths s k ∷ scope) (length (add_value table s k)) t
 next_numbered widths scope table s k t adds n =
-    let l = longer scope table (add_value table s k) _ s _ adds in
-    let m = each_length_in act_sources (sources_in scope) (act_of widths s k) in
-    subst (λ z. Numbered (act_of widths s k ∷ scope) z t) (sym (l ∙ ap (λ z. length table + z) m)) n
+    let by_longer = longer scope table (add_value table s k) _ s _ adds in
+    let by_each_length_in = each_length_in act_sources (sources_in scope) (act_of widths s k) in
+    subst (λ z. Numbered (act_of widths s k ∷ scope) z t) (sym (by_longer ∙ ap (λ z. length table + z) by_each_length_in)) n
 
 side_numbered : (widths : Widths) (scope : List Act) (table : Table) (t : CoreTerm) (u : Term)
     → Adds scope (table ++ [] ∷ []) (add_values (table ++ [] ∷ []) t) (each_act act_sources (sources_in scope) (term_of widths t)) (last_site t) (sources (sources_in scope) (term_of widths t))
     → Numbered scope (length table + (1 + size (term_of widths t))) u → Numbered scope (length (add_values (table ++ [] ∷ []) t)) u
 side_numbered widths scope table t u adds n =
-    let l = longer scope (table ++ [] ∷ []) (add_values (table ++ [] ∷ []) t) _ (last_site t) _ adds in
-    let m = each_length act_sources (sources_in scope) (term_of widths t) in
-    let o = opened_length table in
-    subst (λ z. Numbered scope z u) (omega (arith, l, m, o)) n
+    let next_by_longer = longer scope (table ++ [] ∷ []) (add_values (table ++ [] ∷ []) t) _ (last_site t) _ adds in
+    let by_each_length = each_length act_sources (sources_in scope) (term_of widths t) in
+    let by_opened_length = opened_length table in
+    subst (λ z. Numbered scope z u) (omega (arith, next_by_longer, by_each_length, by_opened_length)) n
 
 side_knows : (widths : Widths) (scope : List Act) (table : Table) (t : CoreTerm) → KnowsAll table scope
     → Adds scope (table ++ [] ∷ []) (add_values (table ++ [] ∷ []) t) (each_act act_sources (sources_in scope) (term_of widths t)) (last_site t) (sources (sources_in scope) (term_of widths t))

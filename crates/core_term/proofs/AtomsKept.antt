@@ -43,10 +43,10 @@ rows_from before (row ∷ rows) (s ∷ from) low is are = (
 
     counted : (before : Table) (row : List SourceAtom) → length (before ++ row ∷ []) ≡ length before + 1
     counted [] row = refl
-    counted (first ∷ rest) row = let z = counted rest row in omega (arith, z)
+    counted (first ∷ rest) row = let by_counted = counted rest row in omega (arith, by_counted)
 
     one_more : (before : Table) (row : List SourceAtom) → low ≡ length before → length (before ++ row ∷ []) ≡ low + 1
-    one_more before row is = let z = counted before row in omega (arith, z, is)
+    one_more before row is = let next_by_counted = counted before row in omega (arith, next_by_counted, is)
 
 pub rows_of : (rows : Table) (from : List (List Source)) → AreAll rows from → RowsFrom rows 0 from
 rows_of rows from are = rows_from [] rows from 0 refl are
@@ -101,9 +101,9 @@ module _ (pick : (ℕ → List Source) → Act → List Source) where
     row_of_inner table vs ws (term.If p e t f w) u low (in_yes s) n rows =
         row_of_act table vs ws t u (low + 1) s n.1 (split table (each_act pick (sources_in vs) t) _ (low + 1) (size t) (each_length pick (sources_in vs) t) rows.1).0
     row_of_inner table vs ws (term.If p e t f w) u low (in_no s) n rows =
-        let P : ℕ → Type 0 = λ z. RowsFrom table z (each_act pick (sources_in vs) f) in
+        let Statement : ℕ → Type 0 = λ z. RowsFrom table z (each_act pick (sources_in vs) f) in
         row_of_act table vs ws f u (low + (1 + size t)) s n.2
-        (subst P (omega arith) (split table (each_act pick (sources_in vs) t) _ (low + 1) (size t) (each_length pick (sources_in vs) t) rows.1).1)
+        (subst Statement (omega arith) (split table (each_act pick (sources_in vs) t) _ (low + 1) (size t) (each_length pick (sources_in vs) t) rows.1).1)
     row_of_inner table vs ws (term.When p e t) u low (in_when s) n rows = row_of_act table vs ws t u (low + 1) s n.1 rows.1
     row_of_inner table vs ws (term.Block p t) u low (in_block s) n rows = row_of_act table vs ws t u (low + 1) s n.1 rows.1
     row_of_inner table vs ws (term.Cycle p c) u low s n rows = elim s [ ]
@@ -144,16 +144,16 @@ knows_rest values low more scope a n some knows are y (inl is) =
     }
 knows_rest values low more scope a n some knows are y (inr in_scope) =
     let here = knows y in_scope in
-    let l = here.inside in
+    let by_inside = here.inside in
     let is_low = act_site scope low a n in
-    let value = bind_other (sources_in scope) (site a) y (act_sources (sources_in scope) a) (omega (arith, l, is_low)) in
-    record { inside = omega (arith, l); row = subst (AreAtoms (row_at values y)) (sym value) here.row }
+    let value = bind_other (sources_in scope) (site a) y (act_sources (sources_in scope) a) (omega (arith, by_inside, is_low)) in
+    record { inside = omega (arith, by_inside); row = subst (AreAtoms (row_at values y)) (sym value) here.row }
 
 knows_inside : (values : Table) (low more : ℕ) (scope : List Act) → KnowsBelow values low scope → KnowsBelow values (low + more) scope
 knows_inside values low more scope knows y in_scope =
     let here = knows y in_scope in
-    let l = here.inside in
-    record { inside = omega (arith, l); row = here.row }
+    let next_by_inside = here.inside in
+    record { inside = omega (arith, next_by_inside); row = here.row }
 
 some_size : (a : Act) → 0 < act_size a
 some_size (term.If p e t u w) = omega arith

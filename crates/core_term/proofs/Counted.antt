@@ -41,7 +41,7 @@ mutual
       let first = counted widths one in
       let second = counted widths other in
       omega (arith, whole, first, second)
-  counted_in widths site (Block' p inner) = let z = counted widths inner in omega (arith, z)
+  counted_in widths site (Block' p inner) = let by_counted = counted widths inner in omega (arith, by_counted)
   counted_in widths site (Wait y) = refl
   counted_in widths site (Pure e) = refl
   counted_in widths site Unit = refl

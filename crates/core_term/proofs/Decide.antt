@@ -70,22 +70,22 @@ module _ (inputs : Inputs) (body : Term) (numbered : Numbered [] 0 body) where
     where
       no : (o : Option ℕ) → run_from inputs g body o q ≡ Runs scope s u → size body ≤ q → ⊥
       no None f l = cc
-      no (Some b) f l = let z : NotRuns (Runs scope s u) = subst (λ w. NotRuns w) f (out inputs g [] 0 no_variable b body q numbered (omega arith)) in z
+      no (Some b) f l = let the_not_runs : NotRuns (Runs scope s u) = subst (λ w. NotRuns w) f (out inputs g [] 0 no_variable b body q numbered (omega arith)) in the_not_runs
 
       go : (b : Bool) → nat_lt q (size body) ≡ b → q < size body
       go true k = grind (arith, nat_tests)
-      go false k = let l : size body ≤ q = grind (arith, nat_tests) in absurd (no (begins inputs g body i) e l)
+      go false k = let at_most : size body ≤ q = grind (arith, nat_tests) in absurd (no (begins inputs g body i) e at_most)
 
   -- what began in an earlier turn began before the begin of a later one
   pub strictly : IsTail body → (g : Sees) (j k q : ℕ) (scope : ℕ → Outcome) (s : ℕ) (u : Term) → run_of inputs g body j q ≡ Runs scope s u → (b : ℕ) → begins inputs g body (suc (k + j)) ≡ Some b → s < b
   strictly tail g j k q scope s u n b e =
-      let z = later_turn inputs g body numbered j k b e in
-      let o = some_start inputs g body numbered (begins inputs g body j) q scope s u n in
-      let f = turn_end inputs g body numbered (begins inputs g body j) o.0 z.0 o.1 z.2 in
-      let P : Option ℕ → Type 0 = λ w. EarlyIn inputs g (run_from inputs g body w) (run_from inputs g body w q) z.0 in
-      let y = subst P (sym o.1) (early inputs g (run_from inputs g body (Some o.0)) [] 0 no_variable o.0 body z.0 numbered tail (record { each = λ q l m. refl }) f q (omega arith) (let w = within g j q scope s u n in omega arith)).is in
-      let w = rw n at y in
-      omega (arith, z.1, w.0)
+      let by_later_turn = later_turn inputs g body numbered j k b e in
+      let by_some_start = some_start inputs g body numbered (begins inputs g body j) q scope s u n in
+      let by_turn_end = turn_end inputs g body numbered (begins inputs g body j) by_some_start.0 by_later_turn.0 by_some_start.1 by_later_turn.2 in
+      let Statement : Option ℕ → Type 0 = λ w. EarlyIn inputs g (run_from inputs g body w) (run_from inputs g body w q) by_later_turn.0 in
+      let y = subst Statement (sym by_some_start.1) (early inputs g (run_from inputs g body (Some by_some_start.0)) [] 0 no_variable by_some_start.0 body by_later_turn.0 numbered tail (record { each = λ q l m. refl }) by_turn_end q (omega arith) (let by_within = within g j q scope s u n in omega arith)).is in
+      let fact = rw n at y in
+      omega (arith, by_later_turn.1, fact.0)
 
   module _ (tail : IsTail body) (registers : ℕ → ℕ → ℕ) (made : MadeFirst body) (choices : ChoicesKept body) (chose : ℕ → ℕ → Bool)
       (chose_is : (i q : ℕ) (scope : ℕ → Outcome) (s : ℕ) (u : Term) (f : Expr) → run_of inputs (sees registers) body i q ≡ Runs scope s u → Asks (head u) f → (value registers scope s f).number == 1 ≡ chose q s)
@@ -98,13 +98,13 @@ module _ (inputs : Inputs) (body : Term) (numbered : Numbered [] 0 body) where
 
     steady : (g : Sight) (i : ℕ) → Steady inputs (sees registers) (run_of inputs (sees registers) body i) g chose
     steady g i = record {
-      made = λ q scope s u p f e k y m. made_at i q scope s u e y (let n : Reads (Pure p f) y = m in rw k n);
+      made = λ q scope s u p f e k y m. made_at i q scope s u e y (let the_reads : Reads (Pure p f) y = m in rw k the_reads);
       sides = λ q scope s u p f t t' e k.
-          let a : Asks (head u) f = rw k refl in
-          let z = chose_is i q scope s u f e a in
-          let y : site (head u) ≡ q = site_is inputs (sees registers) body numbered i q scope s u (ran i q scope s u e) in
-          let w : p ≡ q = sym (ap site k) ∙ y in
-          rw w z;
+          let the_asks : Asks (head u) f = rw k refl in
+          let by_chose_is = chose_is i q scope s u f e the_asks in
+          let equal : site (head u) ≡ q = site_is inputs (sees registers) body numbered i q scope s u (ran i q scope s u e) in
+          let next_equal : p ≡ q = sym (ap site k) ∙ equal in
+          rw next_equal by_chose_is;
     }
 
     abbrev Carried : Sight → ℕ → List Act → (ℕ → Outcome) → Type 0
@@ -130,9 +130,9 @@ module _ (inputs : Inputs) (body : Term) (numbered : Numbered [] 0 body) where
     pub value_again : (g : Sight) (i q : ℕ) (scope : ℕ → Outcome) (s : ℕ) (u : Term) (f : Expr) → run_of inputs (sees registers) body i q ≡ Runs scope s u → ((y : ℕ) → Mentions f y → Reads (head u) y)
         → (vs : List Act) × Stands [] body vs u × (AllFresh (IsFresh g inputs.data_at registers chose) (value registers scope s f).atoms → number g (now_in g vs) f ≡ (value registers scope s f).number)
     value_again g i q scope s u f e reads =
-        let b = some_start inputs (sees registers) body numbered (begins inputs (sees registers) body i) q scope s u e in
-        let z = place_at g i b.0 q b.1 (within (sees registers) i q scope s u e) in
-        let found = rw e at z.is in (
+        let by_some_start = some_start inputs (sees registers) body numbered (begins inputs (sees registers) body i) q scope s u e in
+        let by_place_at = place_at g i by_some_start.0 q by_some_start.1 (within (sees registers) i q scope s u e) in
+        let found = rw e at by_place_at.is in (
           found.0,
           found.1.stands,
           λ fresh.
@@ -161,7 +161,7 @@ module _ (inputs : Inputs) (body : Term) (numbered : Numbered [] 0 body) where
         b = some_start inputs (sees registers) body numbered (begins inputs (sees registers) body i) q scope s u e
 
         found : (vs : List Act) × Sub inputs (sees registers) (run_of inputs (sees registers) body i) body b.0 (Carried g i) (carried_on g i) vs scope s u q
-        found = let z = place_at g i b.0 q b.1 l in rw e at z.is
+        found = let by_place_at = place_at g i b.0 q b.1 l in rw e at by_place_at.is
 
         is_q : site (head u) ≡ q
         is_q = site_is inputs (sees registers) body numbered i q scope s u (ran i q scope s u e)
@@ -173,50 +173,50 @@ module _ (inputs : Inputs) (body : Term) (numbered : Numbered [] 0 body) where
           where
             split : (b : Bool) → nat_lt t' s ≡ b → Turns inputs (sees registers) body numbered i j → ⊥
             split true y z =
-                let w : t' < s = grind (arith, nat_tests) in
-                let o = (earlier j p t' w).back d t' v r' (omega arith) in
-                choices_kept inputs (sees registers) body numbered choices i q scope s u (ran i q scope s u e) f (asks_uses (head u) f k) p t has j o.0 t' v (ran j p o.0 t' v o.1) a c
+                let is_less : t' < s = grind (arith, nat_tests) in
+                let by_earlier = (earlier j p t' is_less).back d t' v r' (omega arith) in
+                choices_kept inputs (sees registers) body numbered choices i q scope s u (ran i q scope s u e) f (asks_uses (head u) f k) p t has j by_earlier.0 t' v (ran j p by_earlier.0 t' v by_earlier.1) a c
             split false y (same z) =
-                let P : ℕ → Type 0 = λ n. run_of inputs (deciding registers' decision) body n p ≡ Runs d t' v in
-                let o = (before p before_here).there scope'' t u' r m in
-                let w : Runs o.0 t u' ≡ Runs d t' v = sym o.1 ∙ subst P (sym z) r' in
+                let Statement : ℕ → Type 0 = λ n. run_of inputs (deciding registers' decision) body n p ≡ Runs d t' v in
+                let by_before = (before p before_here).there scope'' t u' r m in
+                let equal : Runs by_before.0 t u' ≡ Runs d t' v = sym by_before.1 ∙ subst Statement (sym z) r' in
                 let o' : t ≡ t' = cc in omega arith
             split false y (next n z) =
-                let w : s ≤ t' = grind (arith, nat_tests) in
+                let at_most : s ≤ t' = grind (arith, nat_tests) in
                 let b' = some_start inputs (deciding registers' decision) body numbered (begins inputs (deciding registers' decision) body j) p d t' v r' in
-                let P : ℕ → Type 0 = λ n. begins inputs (deciding registers' decision) body n ≡ Some b'.0 in
-                let a' = strictly tail (deciding registers' decision) i n q scope' s u e' b'.0 (subst P z b'.1) in
+                let next_Statement : ℕ → Type 0 = λ n. begins inputs (deciding registers' decision) body n ≡ Some b'.0 in
+                let a' = strictly tail (deciding registers' decision) i n q scope' s u e' b'.0 (subst next_Statement z b'.1) in
                 let c' = begin_since inputs (deciding registers' decision) body numbered (begins inputs (deciding registers' decision) body j) b'.0 p t' b'.1 (ap begin_at r') in omega arith
             split false y (past n z) =
-                let w : s ≤ t' = grind (arith, nat_tests) in
+                let next_at_most : s ≤ t' = grind (arith, nat_tests) in
                 let b' = some_start inputs (deciding registers' decision) body numbered (begins inputs (deciding registers' decision) body i) q scope' s u e' in
-                let P : ℕ → Type 0 = λ n. begins inputs (deciding registers' decision) body n ≡ Some b'.0 in
-                let a' = strictly tail (deciding registers' decision) j n p d t' v r' b'.0 (subst P z b'.1) in
+                let last_Statement : ℕ → Type 0 = λ n. begins inputs (deciding registers' decision) body n ≡ Some b'.0 in
+                let a' = strictly tail (deciding registers' decision) j n p d t' v r' b'.0 (subst last_Statement z b'.1) in
                 let c' = begin_since inputs (deciding registers' decision) body numbered (begins inputs (deciding registers' decision) body i) b'.0 q s b'.1 (ap begin_at e') in omega arith
 
         choice_fresh : (p t : ℕ) → Has (value registers scope s f).atoms (Choice p t) → (c : Source) → Has (expr_sources (site (head u)) (sources_in found.0) f) c → Matches inputs (sees registers) (run_of inputs (sees registers) body i) c (Choice p t) → side p s ≡ chose p t
         choice_fresh p t has (WireOf c) y m = elim m [ ]
         choice_fresh p t has (RegOf c r) y m = elim m [ ]
         choice_fresh p t has (ChoiceOf c) y m =
-            let z : p ≡ c = m.0 in
-            let y' : Has (expr_sources (site (head u)) (sources_in found.0) f) (ChoiceOf p) = rw z y in
+            let equal : p ≡ c = m.0 in
+            let y' : Has (expr_sources (site (head u)) (sources_in found.0) f) (ChoiceOf p) = rw equal y in
             let low : p < site (head u) = choice_below (site (head u)) (site (head u)) p (sources_in found.0) f (scope_below found.1.stands 0 numbered (λ y. below_none 0)) y' in
             let before_here : p < q = rw (← is_q) low in
             let by_now : t ≤ s = old p t has in
-            let P : ℕ → Type 0 = λ n. run_of inputs (sees registers) body i n ≡ Runs m.2.0 t m.2.1 in
-            let r : run_of inputs (sees registers) body i p ≡ Runs m.2.0 t m.2.1 = subst P (sym z) m.2.3 in
-            let o = (before p before_here).there m.2.0 t m.2.1 r by_now in
-            again.latest i p s found.1.fits.1 (record { scope = o.0; begin = t; term = m.2.1; runs = o.1 }) m.2.2 m.2.4 by_now
-            (λ j a. none_later p t has m.2.0 m.2.1 r by_now before_here j a.scope a.begin a.term a.runs)
-            ∙ known p t m.2.0 m.2.1 m.2.2 before_here by_now r m.2.4
+            let Statement : ℕ → Type 0 = λ n. run_of inputs (sees registers) body i n ≡ Runs m.2.0 t m.2.1 in
+            let next_equal : run_of inputs (sees registers) body i p ≡ Runs m.2.0 t m.2.1 = subst Statement (sym equal) m.2.3 in
+            let by_before = (before p before_here).there m.2.0 t m.2.1 next_equal by_now in
+            again.latest i p s found.1.fits.1 (record { scope = by_before.0; begin = t; term = m.2.1; runs = by_before.1 }) m.2.2 m.2.4 by_now
+            (λ j a. none_later p t has m.2.0 m.2.1 next_equal by_now before_here j a.scope a.begin a.term a.runs)
+            ∙ known p t m.2.0 m.2.1 m.2.2 before_here by_now next_equal m.2.4
 
         fresh_atom : (a : Atom) → Has (value registers scope s f).atoms a → IsFresh g inputs.data_at registers chose a
         fresh_atom (Wire m t) has = wires m t has
         fresh_atom (Register r t) has = registers_agree r s (omega arith) ∙ registers_fresh r t has
         fresh_atom (Choice p t) has =
             let at_s : occurrence inputs (sees registers) (run_of inputs (sees registers) body i) (Begin (site (head u))) ≡ At s = rw is_q (ap begin_at e) in
-            let c = (expr_covers inputs (sees registers) (run_of inputs (sees registers) body i) (sources_in found.0) scope (site (head u)) s f at_s found.1.known.0).each (Choice p t) has in
-            choice_fresh p t has c.0 c.1 c.2
+            let by_expr_covers = (expr_covers inputs (sees registers) (run_of inputs (sees registers) body i) (sources_in found.0) scope (site (head u)) s f at_s found.1.known.0).each (Choice p t) has in
+            choice_fresh p t has by_expr_covers.0 by_expr_covers.1 by_expr_covers.2
 
         go : decision q s ≡ chose q s
         go =

@@ -97,7 +97,7 @@ same_is : (o u : Time) → same o u ≡ true → o ≡ u
 same_is Lost Lost k = refl
 same_is Lost (At u) k = absurd cc
 same_is (At s) Lost k = absurd cc
-same_is (At s) (At u) k = let z : s ≡ u = grind (arith, nat_tests) in ap At z
+same_is (At s) (At u) k = let equal : s ≡ u = grind (arith, nat_tests) in ap At equal
 
 lost_is : (o : Time) → is_lost o ≡ true → o ≡ Lost
 lost_is Lost k = refl
@@ -126,9 +126,9 @@ module _ (body : Term) (time : Point → Time) (fit : fits body time ≡ true) w
   same_form : (b c : Point) → HasForm body b (Same c) → time b ≡ time c
   same_form b c (inl k) = same_is _ _ (formed b (Same c.spot) k.1) ∙ sym (moved b c k.0)
   same_form b c (inr k) =
-      let z : b ≡ point true (TermBegin (site (head body))) = rw (← k.0, ← k.1) refl in
-      let w : c ≡ point false (TermEnd (site (head body))) = rw (← k.2, ← k.3) refl in
-      ap time z ∙ (next_turn ∙ ap time (sym w))
+      let equal : b ≡ point true (TermBegin (site (head body))) = rw (← k.0, ← k.1) refl in
+      let next_equal : c ≡ point false (TermEnd (site (head body))) = rw (← k.2, ← k.3) refl in
+      ap time equal ∙ (next_turn ∙ ap time (sym next_equal))
 
   side_form : (b c : Point) → HasForm body b (Side c) → (time b ≡ Lost) ⊎ (time b ≡ time c)
   side_form b c k =
@@ -146,7 +146,7 @@ module _ (body : Term) (time : Point → Time) (fit : fits body time ≡ true) w
       go : (o u : Time) → o ≡ At t → time c ≡ u → (is_lost o || follows u o) ≡ true → (s : ℕ) × (s ≤ t) × (time c ≡ At s)
       go Lost u i j l = absurd cc
       go (At v) Lost i j l = absurd cc
-      go (At v) (At s) i j l = let z : v ≡ t = cc in let y : s ≤ v = grind (arith, nat_tests) in (s, omega arith, j)
+      go (At v) (At s) i j l = let last_equal : v ≡ t = cc in let at_most : s ≤ v = grind (arith, nat_tests) in (s, omega arith, j)
 
   join_form : (b c e : Point) → HasForm body b (Join c e) → time b ≡ both (time c) (time e)
   join_form b c e k = same_is _ _ (formed b (Join c.spot e.spot) k.2) ∙ rw (moved b c k.0, moved b e k.1) refl
@@ -159,14 +159,14 @@ module _ (body : Term) (time : Point → Time) (fit : fits body time ≡ true) w
       ]
 
   first_of_two : (x y o : Time) (t : ℕ) → o ≡ At t → o ≡ both x y → (s : ℕ) × (s ≤ t) × (x ≡ At s)
-  first_of_two Lost y o t e k = let z : Lost ≡ At t = sym k ∙ e in absurd cc
-  first_of_two (At s) Lost o t e k = let z : Lost ≡ At t = sym k ∙ e in absurd cc
-  first_of_two (At s) (At u) o t e k = let z : At (max s u) ≡ At t = sym k ∙ e in let y : max s u ≡ t = cc in (s, omega arith, refl)
+  first_of_two Lost y o t e k = let equal : Lost ≡ At t = sym k ∙ e in absurd cc
+  first_of_two (At s) Lost o t e k = let next_equal : Lost ≡ At t = sym k ∙ e in absurd cc
+  first_of_two (At s) (At u) o t e k = let other_equal : At (max s u) ≡ At t = sym k ∙ e in let more_equal : max s u ≡ t = cc in (s, omega arith, refl)
 
   second_of_two : (x y o : Time) (t : ℕ) → o ≡ At t → o ≡ both x y → (s : ℕ) × (s ≤ t) × (y ≡ At s)
-  second_of_two Lost y o t e k = let z : Lost ≡ At t = sym k ∙ e in absurd cc
+  second_of_two Lost y o t e k = let further_equal : Lost ≡ At t = sym k ∙ e in absurd cc
   second_of_two (At s) Lost o t e k = let z : Lost ≡ At t = sym k ∙ e in absurd cc
-  second_of_two (At s) (At u) o t e k = let z : At (max s u) ≡ At t = sym k ∙ e in let y : max s u ≡ t = cc in (u, omega arith, refl)
+  second_of_two (At s) (At u) o t e k = let last_equal : At (max s u) ≡ At t = sym k ∙ e in let y : max s u ≡ t = cc in (u, omega arith, refl)
 
   shifted : (x o : Time) (n t : ℕ) → o ≡ At t → o ≡ plus n x → (s : ℕ) × (s + n ≤ t) × (x ≡ At s)
   shifted Lost o n t e k = let z : Lost ≡ At t = sym k ∙ e in absurd cc
@@ -185,7 +185,7 @@ module _ (body : Term) (time : Point → Time) (fit : fits body time ≡ true) w
   up_later b c f form by_same t e = (t, omega arith, sym (same_form b c form) ∙ e)
   up_later b c f form by_side t e =
       elim (side_form b c form) [
-        | inl lost ↦ let z : Lost ≡ At t = sym lost ∙ e in absurd cc
+        | inl lost ↦ let equal : Lost ≡ At t = sym lost ∙ e in absurd cc
         | inr k ↦ (t, omega arith, sym k ∙ e)
       ]
   up_later b c f form by_sync t e = sync_form b c form t e
@@ -213,8 +213,8 @@ module _ (body : Term) (time : Point → Time) (fit : fits body time ≡ true) w
       down_same = λ a c f form once left s l k. elim (at_once a c f form once) [ inl z ↦ inl z | inr z ↦ inr (z ∙ k) ];
       down_after = λ a c n form left s l k. after_form a c n form ∙ ap (plus n) k;
       down_join = λ a c e form left s u l m i j. (max s u, max_is s u, join_form a c e form ∙ rw (i, j) refl);
-      down_merge_first = λ a c e form left s l k. elim (merge_form a c e form) [ inl z ↦ z.0 ∙ k | inr z ↦ let y : Lost ≡ At s = sym z.1 ∙ k in absurd cc ];
-      down_merge_second = λ a c e form left s l k. elim (merge_form a c e form) [ inl z ↦ let y : Lost ≡ At s = sym z.1 ∙ k in absurd cc | inr z ↦ z.0 ∙ k ];
+      down_merge_first = λ a c e form left s l k. elim (merge_form a c e form) [ inl z ↦ z.0 ∙ k | inr z ↦ let equal : Lost ≡ At s = sym z.1 ∙ k in absurd cc ];
+      down_merge_second = λ a c e form left s l k. elim (merge_form a c e form) [ inl z ↦ let next_equal : Lost ≡ At s = sym z.1 ∙ k in absurd cc | inr z ↦ z.0 ∙ k ];
       lost_same = λ a c f form once left k. elim (at_once a c f form once) [ inl z ↦ z | inr z ↦ z ∙ k ];
       lost_after = λ a c n form left k. after_form a c n form ∙ ap (plus n) k;
       lost_join = λ a c e form left k. join_form a c e form ∙ both_lost (time c) (time e) k;
@@ -226,8 +226,8 @@ module _ (body : Term) (time : Point → Time) (fit : fits body time ≡ true) w
     pub refuted : (a b : Point) (d : ℤ) (s t : ℕ) → time a ≡ At s → time b ≡ At t → (pos t <ℤ (pos far +ℤ d)) → (pos t <ℤ (pos s +ℤ d)) → Precedes body a d b → ⊥
     refuted a b d s t i j near late k =
         elim (law Point (HasForm body) (Exclusive body) far (λ b. Unit {0}) (λ b t. time b ≡ At t) (λ b. time b ≡ Lost) timed k tt t j near) [
-          | inl lost ↦ let z : Lost ≡ At s = sym lost ∙ i in absurd cc
-          | inr z ↦ let y : At s ≡ At z.0 = sym i ∙ z.2 in let w : s ≡ z.0 = cc in let v = z.1 in omega (arith, ints)
+          | inl lost ↦ let last_equal : Lost ≡ At s = sym lost ∙ i in absurd cc
+          | inr z ↦ let other_equal : At s ≡ At z.0 = sym i ∙ z.2 in let more_equal : s ≡ z.0 = cc in let part = z.1 in omega (arith, ints)
         ]
 
     -- the same for the last cycle of a life from the end of the act q on, which is not before `final`
@@ -237,15 +237,15 @@ module _ (body : Term) (time : Point → Time) (fit : fits body time ≡ true) w
         → t < far → (pos t <ℤ (pos far +ℤ d)) → (pos t <ℤ (pos final +ℤ d)) → LastPrecedes body life q d b → ⊥
     refuted_last life q b d s final t i j lasts by_count by_act short near late k =
         elim (last_law Point (HasForm body) (Exclusive body) far (λ b. Unit {0}) (λ b t. time b ≡ At t) (λ b. time b ≡ Lost) timed (HasEnding body life) (λ u l. u ≡ s → final ≤ l)
-        lasts (λ n e u z. let y = by_count n e in omega arith)
+        lasts (λ n e u z. let by_by_count = by_count n e in omega arith)
         (λ c e u v o l z. by_act e.0 e.1 v c e.2 e.3 e.4 o (omega arith))
         (point false (End q)) tt k t j short near) [
-          | inl lost ↦ let z : Lost ≡ At s = sym lost ∙ i in absurd cc
+          | inl lost ↦ let equal : Lost ≡ At s = sym lost ∙ i in absurd cc
           | inr z ↦
-              let y : At s ≡ At z.0 = sym i ∙ z.2 in
-              let w : z.0 ≡ s = cc in
-              let v : final ≤ z.1 = z.3 w in
-              let u = z.4 in omega (arith, ints)
+              let next_equal : At s ≡ At z.0 = sym i ∙ z.2 in
+              let further_equal : z.0 ≡ s = cc in
+              let at_most : final ≤ z.1 = z.3 further_equal in
+              let next_part = z.4 in omega (arith, ints)
         ]
 
 -- Bodies without an `if` have no points that exclude each other.

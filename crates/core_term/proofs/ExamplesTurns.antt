@@ -112,7 +112,7 @@ shared_register = record {
 
 shared_demand : Demands shared_register 0 send_register V7 0 0 (rules.Last 0 0 (pos 0) (begin_of 0))
 shared_demand =
-    rules.set_elsewhere send_register 0 0 1 0 setter (record { scope = []; stands = here; value = Reg 0; uses = refl; has = inl refl }) refl (λ k. let z : 1 ≡ 0 = k in one_is_not z) ([], One (Set 0 0 (Bin Add 8 8 (Reg 0) (Lit 8 1))), here, refl, refl)
+    rules.set_elsewhere send_register 0 0 1 0 setter (record { scope = []; stands = here; value = Reg 0; uses = refl; has = inl refl }) refl (λ k. let equal : 1 ≡ 0 = k in one_is_not equal) ([], One (Set 0 0 (Bin Add 8 8 (Reg 0) (Lit 8 1))), here, refl, refl)
   where
     one_is_not : {n : ℕ} → n + 1 ≡ n → ⊥
     one_is_not k = omega arith
@@ -174,7 +174,7 @@ other_side a k = go a.late a.spot k
     go true (NoSide p) e = refl
 
 held_side_apart : (a b : Point) → Exclusive held_side a b → (t : ℕ) → held_side_times b ≡ At t → held_side_times a ≡ Lost
-held_side_apart a b (e, inl (inl (inl (k, l)))) t o = let i : spot_site b.spot ≡ 2 = omega (arith, l.0, l.1) in let z : Lost ≡ At t = sym (other_side b i) ∙ o in absurd cc
+held_side_apart a b (e, inl (inl (inl (k, l)))) t o = let equal : spot_site b.spot ≡ 2 = omega (arith, l.0, l.1) in let next_equal : Lost ≡ At t = sym (other_side b equal) ∙ o in absurd cc
 held_side_apart a b (e, inl (inl (inr (k, l)))) t o = other_side a (omega (arith, k.0, k.1))
 held_side_apart a b (e, inl (inr (inl k))) t o = elim k [ ]
 held_side_apart a b (e, inl (inr (inr k))) t o = elim k [ ]

@@ -21,8 +21,8 @@ module _ (inputs : Inputs) (registers : ℕ → ℕ → ℕ) where
 
   pub ended_ready : (scope : ℕ → Outcome) (s m t : ℕ) (v : Value) (a : Act) → OnPort a m → act_ends inputs (sees registers) scope s a ≡ Done t v → (t < inputs.count) × (s ≤ t) × Ready a m t
   unfolding Ready
-  ended_ready scope s m t v (Send p n e) k q = let z = found_is (inputs.ack n) s (inputs.count - s) _ t v q in (omega (arith, z.1, z.2), z.2, rw (sym k) z.0)
-  ended_ready scope s m t v (Recv p n) k q = let z = found_is (inputs.valid n) s (inputs.count - s) _ t v q in (omega (arith, z.1, z.2), z.2, rw (sym k) z.0)
+  ended_ready scope s m t v (Send p n e) k q = let by_found_is = found_is (inputs.ack n) s (inputs.count - s) _ t v q in (omega (arith, by_found_is.1, by_found_is.2), by_found_is.2, rw (sym k) by_found_is.0)
+  ended_ready scope s m t v (Recv p n) k q = let next_by_found_is = found_is (inputs.valid n) s (inputs.count - s) _ t v q in (omega (arith, next_by_found_is.1, next_by_found_is.2), next_by_found_is.2, rw (sym k) next_by_found_is.0)
   ended_ready scope s m t v (Cycle p n) k q = elim k [ ]
   ended_ready scope s m t v (Set p r e) k q = elim k [ ]
   ended_ready scope s m t v (If p e u w d) k q = elim k [ ]
@@ -34,8 +34,8 @@ module _ (inputs : Inputs) (registers : ℕ → ℕ → ℕ) where
 
   pub ready_ended : (scope : ℕ → Outcome) (s m t : ℕ) (a : Act) → OnPort a m → t < inputs.count → IsPending t s (act_ends inputs (sees registers) scope s a) → Ready a m t → (v : Value) × (act_ends inputs (sees registers) scope s a ≡ Done t v)
   unfolding Ready
-  ready_ended scope s m t (Send p n e) k l i r = let b : s ≤ t = i.begun in (_, found_by (inputs.ack n) s (inputs.count - s) (λ u. nothing) t b (omega arith) (rw k r) i)
-  ready_ended scope s m t (Recv p n) k l i r = let b : s ≤ t = i.begun in (_, found_by (inputs.valid n) s (inputs.count - s) (λ u. record { number = inputs.data_at n u; atoms = Wire n u ∷ [] }) t b (omega arith) (rw k r) i)
+  ready_ended scope s m t (Send p n e) k l i r = let at_most : s ≤ t = i.begun in (_, found_by (inputs.ack n) s (inputs.count - s) (λ u. nothing) t at_most (omega arith) (rw k r) i)
+  ready_ended scope s m t (Recv p n) k l i r = let next_at_most : s ≤ t = i.begun in (_, found_by (inputs.valid n) s (inputs.count - s) (λ u. record { number = inputs.data_at n u; atoms = Wire n u ∷ [] }) t next_at_most (omega arith) (rw k r) i)
   ready_ended scope s m t (Cycle p n) k l i r = elim k [ ]
   ready_ended scope s m t (Set p n e) k l i r = elim k [ ]
   ready_ended scope s m t (If p e u w d) k l i r = elim k [ ]
@@ -97,10 +97,10 @@ module _ (inputs : Inputs) (registers : ℕ → ℕ → ℕ) where
 
     pub exchange_of : (m t j : ℕ) (thread : Thread) → IsThread p.threads j thread → (turn place : ℕ) (b : Begun inputs registers thread.body turn place) → OnPort (head b.term) m → EndsIn b t → Exchange (wires p inputs registers) m t
     exchange_of m t j thread is turn place b k (v, e) =
-        let z = ended_ready b.scope b.begin m t v (head b.term) k e in
-        let still_offered : IsPending t b.begin (act_ends inputs (sees registers) b.scope b.begin (head b.term)) = record { begun = z.1; not_ended = λ c w q. let y : Done c w ≡ Done t v = sym q ∙ e in let y' : c ≡ t = cc in omega arith } in
-        let d = is_driven inputs registers p process m t (record { j = j; thread = thread; is = is; turn = turn; place = place; act = b; on = k; pending = still_offered }) in
-        ready_wires m t (head b.term) (side_begun m j thread is turn place b k) z.2 d z.0
+        let by_ended_ready = ended_ready b.scope b.begin m t v (head b.term) k e in
+        let still_offered : IsPending t b.begin (act_ends inputs (sees registers) b.scope b.begin (head b.term)) = record { begun = by_ended_ready.1; not_ended = λ c w q. let equal : Done c w ≡ Done t v = sym q ∙ e in let y' : c ≡ t = cc in omega arith } in
+        let by_is_driven = is_driven inputs registers p process m t (record { j = j; thread = thread; is = is; turn = turn; place = place; act = b; on = k; pending = still_offered }) in
+        ready_wires m t (head b.term) (side_begun m j thread is turn place b k) by_ended_ready.2 by_is_driven by_ended_ready.0
 
     pub driven_at : (m t : ℕ) → Exchange (wires p inputs registers) m t → driven p inputs registers m t ≡ true
     driven_at m t (l, v, a) = go (is_received p m) refl
@@ -115,4 +115,4 @@ module _ (inputs : Inputs) (registers : ℕ → ℕ → ℕ) where
 
     -- the act that an exchange ends
     pub ended_by : (m t : ℕ) → Exchange (wires p inputs registers) m t → (o : OfferedIn inputs registers p.threads m t) × EndsIn o.act t
-    ended_by m t e = let o = driven_is inputs registers p m t (driven_at m t e) in (o, offered_ends m t o e)
+    ended_by m t e = let by_driven_is = driven_is inputs registers p m t (driven_at m t e) in (by_driven_is, offered_ends m t by_driven_is e)

@@ -22,20 +22,20 @@ In low n c = (low ≤ spot_site c) × (spot_site c < low + n)
 mutual
   pub apart_in : (vs : List Act) (low : ℕ) (t : Term) (b c : Spot) → Numbered vs low t → Apart t b c → In low (size t) c
   apart_in vs low (One a) b c n k = apart_act_in vs low a b c n k
-  apart_in vs low (Then a t) b c n (inl k) = let i = apart_act_in vs low a b c n.0 k in (omega arith, omega arith)
-  apart_in vs low (Then a t) b c n (inr k) = let i = apart_in (a ∷ vs) (low + act_size a) t b c n.1 k in (omega arith, omega arith)
-  apart_in vs low (Both a t) b c n (inl k) = let i = apart_act_in vs low a b c n.0 k in (omega arith, omega arith)
-  apart_in vs low (Both a t) b c n (inr k) = let i = apart_in (a ∷ vs) (low + act_size a) t b c n.1 k in (omega arith, omega arith)
+  apart_in vs low (Then a t) b c n (inl k) = let by_apart_act_in = apart_act_in vs low a b c n.0 k in (omega arith, omega arith)
+  apart_in vs low (Then a t) b c n (inr k) = let by_apart_in = apart_in (a ∷ vs) (low + act_size a) t b c n.1 k in (omega arith, omega arith)
+  apart_in vs low (Both a t) b c n (inl k) = let next_by_apart_act_in = apart_act_in vs low a b c n.0 k in (omega arith, omega arith)
+  apart_in vs low (Both a t) b c n (inr k) = let next_by_apart_in = apart_in (a ∷ vs) (low + act_size a) t b c n.1 k in (omega arith, omega arith)
 
   pub apart_act_in : (vs : List Act) (low : ℕ) (a : Act) (b c : Spot) → NumberedAct vs low a → ApartIn a b c → In low (act_size a) c
-  apart_act_in vs low (If p e t u w) b c n (inl (inl k)) = let m : site (head u) ≡ low + (1 + size t) = head_site _ _ u n.2 in let i = k.1 in (omega arith, omega arith)
-  apart_act_in vs low (If p e t u w) b c n (inl (inr k)) = let m : site (head t) ≡ low + 1 = head_site _ _ t n.1 in let i = k.1 in (omega arith, omega arith)
-  apart_act_in vs low (If p e t u w) b c n (inr (inl k)) = let i = apart_in vs (low + 1) t b c n.1 k in (omega arith, omega arith)
-  apart_act_in vs low (If p e t u w) b c n (inr (inr k)) = let i = apart_in vs (low + (1 + size t)) u b c n.2 k in (omega arith, omega arith)
-  apart_act_in vs low (When p e t) b c n (inl (inl k)) = let q : spot_site c ≡ p = ap spot_site k.1 in let r : p ≡ low = n.0 in (omega arith, omega arith)
-  apart_act_in vs low (When p e t) b c n (inl (inr k)) = let m : site (head t) ≡ low + 1 = head_site _ _ t n.1 in let i = k.1 in (omega arith, omega arith)
-  apart_act_in vs low (When p e t) b c n (inr k) = let i = apart_in vs (low + 1) t b c n.1 k in (omega arith, omega arith)
-  apart_act_in vs low (Block p t) b c n k = let i = apart_in vs (low + 1) t b c n.1 k in (omega arith, omega arith)
+  apart_act_in vs low (If p e t u w) b c n (inl (inl k)) = let equal : site (head u) ≡ low + (1 + size t) = head_site _ _ u n.2 in let part = k.1 in (omega arith, omega arith)
+  apart_act_in vs low (If p e t u w) b c n (inl (inr k)) = let next_equal : site (head t) ≡ low + 1 = head_site _ _ t n.1 in let next_part = k.1 in (omega arith, omega arith)
+  apart_act_in vs low (If p e t u w) b c n (inr (inl k)) = let last_by_apart_in = apart_in vs (low + 1) t b c n.1 k in (omega arith, omega arith)
+  apart_act_in vs low (If p e t u w) b c n (inr (inr k)) = let other_by_apart_in = apart_in vs (low + (1 + size t)) u b c n.2 k in (omega arith, omega arith)
+  apart_act_in vs low (When p e t) b c n (inl (inl k)) = let last_equal : spot_site c ≡ p = ap spot_site k.1 in let other_equal : p ≡ low = n.0 in (omega arith, omega arith)
+  apart_act_in vs low (When p e t) b c n (inl (inr k)) = let more_equal : site (head t) ≡ low + 1 = head_site _ _ t n.1 in let last_part = k.1 in (omega arith, omega arith)
+  apart_act_in vs low (When p e t) b c n (inr k) = let by_apart_in = apart_in vs (low + 1) t b c n.1 k in (omega arith, omega arith)
+  apart_act_in vs low (Block p t) b c n k = let more_by_apart_in = apart_in vs (low + 1) t b c n.1 k in (omega arith, omega arith)
   apart_act_in vs low (Cycle p m) b c n k = elim k [ ]
   apart_act_in vs low (Set p r e) b c n k = elim k [ ]
   apart_act_in vs low (Send p m e) b c n k = elim k [ ]
@@ -58,21 +58,21 @@ module _ (inputs : Inputs) (view : Sees) (run : ℕ → Fate) (b c : Spot) (u : 
     where
       go : (v : Bool) → ((q : ℕ) → low + 1 ≤ q → q < low + 1 + size t → run q ≡ (if v then fate inputs view scope s t q else Lost)) → ((q : ℕ) → low + (1 + size t) ≤ q → q < low + (1 + size t) + size f → run q ≡ (if v then Lost else fate inputs view scope s f q))
           → (IsIn t b × IsIn f c) ⊎ (IsIn f b × IsIn t c) → occurrence inputs view run b ≡ Gone
-      go true y z (inl i) = let m : site (head f) ≡ low + (1 + size t) = head_site _ _ f n.2 in never f (low + (1 + size t)) Lost idle_gone (record { each = z }) (rw (← m) i.1)
-      go true y z (inr i) = let m : site (head f) ≡ low + (1 + size t) = head_site _ _ f n.2 in let j = i.0 in none_at inputs view run f (low + (1 + size t)) Lost idle_gone (record { each = z }) b (omega arith) (omega arith)
-      go false y z (inl i) = let m : site (head t) ≡ low + 1 = head_site _ _ t n.1 in let j = i.0 in none_at inputs view run t (low + 1) Lost idle_gone (record { each = y }) b (omega arith) (omega arith)
-      go false y z (inr i) = let m : site (head t) ≡ low + 1 = head_site _ _ t n.1 in never t (low + 1) Lost idle_gone (record { each = y }) (rw (← m) i.1)
+      go true y z (inl i) = let equal : site (head f) ≡ low + (1 + size t) = head_site _ _ f n.2 in never f (low + (1 + size t)) Lost idle_gone (record { each = z }) (rw (← equal) i.1)
+      go true y z (inr i) = let next_equal : site (head f) ≡ low + (1 + size t) = head_site _ _ f n.2 in let part = i.0 in none_at inputs view run f (low + (1 + size t)) Lost idle_gone (record { each = z }) b (omega arith) (omega arith)
+      go false y z (inl i) = let last_equal : site (head t) ≡ low + 1 = head_site _ _ t n.1 in let next_part = i.0 in none_at inputs view run t (low + 1) Lost idle_gone (record { each = y }) b (omega arith) (omega arith)
+      go false y z (inr i) = let other_equal : site (head t) ≡ low + 1 = head_site _ _ t n.1 in never t (low + 1) Lost idle_gone (record { each = y }) (rw (← other_equal) i.1)
 
   when_sides : (vs : List Act) (low : ℕ) (scope : ℕ → Outcome) (s p : ℕ) (e : Expr) (t : Term) → NumberedAct vs low (When p e t) → Agrees run (inside inputs view scope s (When p e t)) (low + 1) (low + act_size (When p e t)) → Live inputs view run scope s (When p e t) low → (IsIn t b × (c ≡ NoSide p)) ⊎ ((b ≡ NoSide p) × IsIn t c) → occurrence inputs view run b ≡ Gone
   when_sides vs low scope s p e t n g l k = go (view.decide p s scope e) (λ q i j. g.each q (omega arith) (omega arith)) l.no k
     where
       go : (v : Bool) → ((q : ℕ) → low + 1 ≤ q → q < low + 1 + size t → run q ≡ (if v then fate inputs view scope s t q else Lost)) → occurrence inputs view run (NoSide low) ≡ (if v then Gone else At s) → (IsIn t b × (c ≡ NoSide p)) ⊎ ((b ≡ NoSide p) × IsIn t c) → occurrence inputs view run b ≡ Gone
       go true y z (inl i) =
-          let j : occurrence inputs view run (NoSide low) ≡ At u = rw (← n.0) (rw i.1 at at_c) in
-          let k : Gone ≡ At u = sym z ∙ j in absurd (idle_not idle_gone k)
+          let more_equal : occurrence inputs view run (NoSide low) ≡ At u = rw (← n.0) (rw i.1 at at_c) in
+          let equal : Gone ≡ At u = sym z ∙ more_equal in absurd (idle_not idle_gone equal)
       go true y z (inr i) = rw (i.0, n.0) z
-      go false y z (inl i) = let m : site (head t) ≡ low + 1 = head_site _ _ t n.1 in let j = i.0 in none_at inputs view run t (low + 1) Lost idle_gone (record { each = y }) b (omega arith) (omega arith)
-      go false y z (inr i) = let m : site (head t) ≡ low + 1 = head_site _ _ t n.1 in never t (low + 1) Lost idle_gone (record { each = y }) (rw (← m) i.1)
+      go false y z (inl i) = let next_equal : site (head t) ≡ low + 1 = head_site _ _ t n.1 in let part = i.0 in none_at inputs view run t (low + 1) Lost idle_gone (record { each = y }) b (omega arith) (omega arith)
+      go false y z (inr i) = let last_equal : site (head t) ≡ low + 1 = head_site _ _ t n.1 in never t (low + 1) Lost idle_gone (record { each = y }) (rw (← last_equal) i.1)
 
   mutual
     pub apart : (vs : List Act) (low : ℕ) (scope : ℕ → Outcome) (s : ℕ) (t : Term) → Numbered vs low t → Agrees run (fate inputs view scope s t) low (low + size t) → Apart t b c → occurrence inputs view run b ≡ Gone

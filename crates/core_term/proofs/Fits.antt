@@ -211,7 +211,7 @@ nth_life p n (suc m) (port ∷ ports) k e i =
     subst (λ z. IsTrue (end_fits p z e)) (omega arith) (nth_life p (n + 1) m ports (second_part (life_fits p n port.life) _ k) e i)
 
 pub end_lasts : (p : Process) (m k : ℕ) → IsTrue (end_fits p m (Cycles k)) → 0 < k
-end_lasts p m k l = let z : nat_le 1 k ≡ true = first_part (nat_le 1 k) _ l in grind (arith, nat_tests)
+end_lasts p m k l = let decided : nat_le 1 k ≡ true = first_part (nat_le 1 k) _ l in grind (arith, nat_tests)
 
 pub same_bytes : (xs ys : List ℕ) → IsTrue (bytes_eq xs ys) → xs ≡ ys
 same_bytes xs ys k = (bytes_eq-Decides xs ys).0 k
@@ -233,7 +233,7 @@ contradicts false k l = absurd cc
 pub from_body : (widths : Widths) (bodies : List CoreTerm) (j : ℕ) (thread : Thread) → IsThread (map (thread_of widths) bodies) j thread → (body : CoreTerm) × Has bodies body × (thread_of widths body ≡ thread)
 from_body widths [] j thread i = elim i [ ]
 from_body widths (body ∷ rest) zero thread i = (body, inl refl, i)
-from_body widths (body ∷ rest) (suc j) thread i = let z = from_body widths rest j thread i in (z.0, inr z.1, z.2)
+from_body widths (body ∷ rest) (suc j) thread i = let by_from_body = from_body widths rest j thread i in (by_from_body.0, inr by_from_body.1, by_from_body.2)
 
 module _ (name : List ℕ) (ports : List CorePort) (registers : List CoreReg) (threads : List CoreTerm) (sized : IsTrue (is_sized name ports registers threads)) (owned : IsTrue (is_owned name ports registers threads))
     (bodies : (body : CoreTerm) → Has threads body → IsBody body) where
@@ -262,8 +262,8 @@ module _ (name : List ℕ) (ports : List CorePort) (registers : List CoreReg) (t
 
   pub act_of_thread : (j : ℕ) (thread : Thread) (w : ℕ) (Asked : Act → Type 0) → IsThread p.threads j thread → HasAct thread.body w Asked → (inner : Widths) × (a : Act) × IsTrue (act_fits p inner a) × Asked a
   act_of_thread j thread w Asked i (scope, u, s, e, asked) =
-      let z = standing_fits p [] scope widths thread.body u s (thread_of_all (λ thread. term_fits p widths thread.body) p.threads j thread i terms) in
-      (z.0, head u, head_fits p z.0 u z.1, asked)
+      let by_standing_fits = standing_fits p [] scope widths thread.body u s (thread_of_all (λ thread. term_fits p widths thread.body) p.threads j thread i terms) in
+      (by_standing_fits.0, head u, head_fits p by_standing_fits.0 u by_standing_fits.1, asked)
 
   pub named : (thread : Thread) (w m : ℕ) → HasAct thread.body w (λ a. OnPort a m) → Has (ports_named thread.body) m
   named thread w m (scope, u, s, e, k) = standing_named [] scope thread.body u m s (head_named u m k)
@@ -272,7 +272,7 @@ module _ (name : List ℕ) (ports : List CorePort) (registers : List CoreReg) (t
   set thread w r (scope, u, s, e, k) = standing_set [] scope thread.body u r s (head_set u r k)
 
   pub body_of : (j : ℕ) (thread : Thread) (Q : Thread → Type 0) → ((body : CoreTerm) → IsBody body → Q (thread_of widths body)) → IsThread p.threads j thread → Q thread
-  body_of j thread Q k i = let z = from_body widths threads j thread i in subst Q z.2 (k z.0 (bodies z.0 z.1))
+  body_of j thread Q k i = let by_from_body = from_body widths threads j thread i in subst Q by_from_body.2 (k by_from_body.0 (bodies by_from_body.0 by_from_body.1))
 
   pub is_process : IsProcess p
   is_process = record {
@@ -282,8 +282,8 @@ module _ (name : List ℕ) (ports : List CorePort) (registers : List CoreReg) (t
     cycles = λ j thread i. body_of j thread (λ t. CyclesTakeTime t.body) (λ body k. k.cycles widths) i;
     lasts = λ m k i. end_lasts p m k (life_end m (Cycles k) i);
     same_endpoint = λ m n i. end_same p m n (life_end m (Until n) i);
-    receives = λ j thread w m i k. let z = act_of_thread j thread w (λ a. Receives a m) i k in receives_side p z.0 z.1 m z.2 z.3;
-    sends = λ j thread w m i k. let z = act_of_thread j thread w (λ a. Sends a m) i k in sends_side p z.0 z.1 m z.2 z.3;
+    receives = λ j thread w m i k. let by_act_of_thread = act_of_thread j thread w (λ a. Receives a m) i k in receives_side p by_act_of_thread.0 by_act_of_thread.1 m by_act_of_thread.2 by_act_of_thread.3;
+    sends = λ j thread w m i k. let next_by_act_of_thread = act_of_thread j thread w (λ a. Sends a m) i k in sends_side p next_by_act_of_thread.0 next_by_act_of_thread.1 m next_by_act_of_thread.2 next_by_act_of_thread.3;
     one_talker = one_talker;
     one_setter = one_setter;
   }

@@ -18,7 +18,7 @@ cell_below (port ∷ ports) (Received valid v ∷ cells) zero fits received =
     let cell : IsTrue (port.received && ((v.width == port.width) && nat_lt v.value (2 ^ port.width))) = first_part _ _ fits in
     let below : nat_lt v.value (2 ^ port.width) ≡ true = second_part (v.width == port.width) _ (second_part port.received _ cell) in
     grind (arith, nat_tests)
-cell_below (port ∷ ports) (Sent ack ∷ cells) zero fits received = let z : 0 < 2 ^ port.width = grind arith in z
+cell_below (port ∷ ports) (Sent ack ∷ cells) zero fits received = let is_less : 0 < 2 ^ port.width = grind arith in is_less
 cell_below (port ∷ ports) (cell ∷ cells) (suc m) fits received = cell_below ports cells m (second_part (cell_fits port cell) _ fits) received
 
 row_below : (ports : List Port) (rows : List Row) (m t : ℕ) → RowsFit ports rows → t < length rows → (nth_port ports m).received ≡ true

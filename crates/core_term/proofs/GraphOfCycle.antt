@@ -194,8 +194,8 @@ is_graph = record {
     step = λ b f k. inr (node_form (real_at b f k));
     root = λ b r g k. (b, r.0, stop, r.1, sym (node_form (real_at b r.0 r.1)) ∙ k);
     one = λ a b r s e.
-        let z : a ≡ b = sym (known (real_at a r.0 r.1)) ∙ (ap point_of e ∙ known (real_at b s.0 s.1)) in
-        (a, stop, subst (λ c. Chain Point (HasForm body) a c) z stop);
+        let equal : a ≡ b = sym (known (real_at a r.0 r.1)) ∙ (ap point_of e ∙ known (real_at b s.0 s.1)) in
+        (a, stop, subst (λ c. Chain Point (HasForm body) a c) equal stop);
     apart = λ a b r s e. absurd e.1;
     apart_back = λ a b r s e. absurd cc;
   };

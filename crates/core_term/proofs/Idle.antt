@@ -70,8 +70,8 @@ mutual
 mutual
   pub size_positive : (t : Term) → 0 < size t
   size_positive (One a) = act_size_positive a
-  size_positive (Then a t) = let h : 0 < act_size a = act_size_positive a in omega arith
-  size_positive (Both a t) = let h : 0 < act_size a = act_size_positive a in omega arith
+  size_positive (Then a t) = let is_less : 0 < act_size a = act_size_positive a in omega arith
+  size_positive (Both a t) = let next_is_less : 0 < act_size a = act_size_positive a in omega arith
 
   pub act_size_positive : (a : Act) → 0 < act_size a
   act_size_positive (If p e t u w) = omega arith
@@ -111,12 +111,12 @@ module _ (T : ℕ) (o : Spot → Occurrence) (w : Occurrence) (i : Idle w) where
   mutual
     pub idle : (vs : List Act) (low : ℕ) (t : Term) → Numbered vs low t → Stills o w low (low + size t) → Outer o w vs → Obeys T o (forms t)
     idle vs low (One a) n s u =
-        let h : 0 < act_size a = act_size_positive a in
+        let is_less : 0 < act_size a = act_size_positive a in
         let here : Still o w (site a) = rw (act_site vs low a n) (s.each low (omega arith) (omega arith)) in
         (same_eq (here.begin ∙ sym here.term_begin), (same_eq (here.term_end ∙ sym here.end), act_idle vs low a n s u))
     idle vs low (Then a t) n s u =
-        let h : 0 < act_size a = act_size_positive a in
-        let k : 0 < size t = size_positive t in
+        let next_is_less : 0 < act_size a = act_size_positive a in
+        let last_is_less : 0 < size t = size_positive t in
         let here : Still o w (site a) = rw (act_site vs low a n.0) (s.each low (omega arith) (omega arith)) in
         let there : Still o w (site (head t)) = rw (head_site (a ∷ vs) (low + act_size a) t n.1) (s.each (low + act_size a) (omega arith) (omega arith)) in (
           same_eq (here.begin ∙ sym here.term_begin),
@@ -131,8 +131,8 @@ module _ (T : ℕ) (o : Spot → Occurrence) (w : Occurrence) (i : Idle w) where
           ),
         )
     idle vs low (Both a t) n s u =
-        let h : 0 < act_size a = act_size_positive a in
-        let k : 0 < size t = size_positive t in
+        let other_is_less : 0 < act_size a = act_size_positive a in
+        let more_is_less : 0 < size t = size_positive t in
         let here : Still o w (site a) = rw (act_site vs low a n.0) (s.each low (omega arith) (omega arith)) in
         let there : Still o w (site (head t)) = rw (head_site (a ∷ vs) (low + act_size a) t n.1) (s.each (low + act_size a) (omega arith) (omega arith)) in (
           same_eq (here.begin ∙ sym here.term_begin),
@@ -161,8 +161,8 @@ module _ (T : ℕ) (o : Spot → Occurrence) (w : Occurrence) (i : Idle w) where
         let here : Still o w p = rw n (s.each low (omega arith) (omega arith)) in
         (sync_idle i here.end, tt)
     act_idle vs low (If p e t f worded) n s u =
-        let k : 0 < size t = size_positive t in
-        let l : 0 < size f = size_positive f in
+        let is_less : 0 < size t = size_positive t in
+        let next_is_less : 0 < size f = size_positive f in
         let here : Still o w p = rw n.0 (s.each low (omega arith) (omega arith)) in
         let yes : Still o w (site (head t)) = rw (head_site vs (low + 1) t n.1) (s.each (low + 1) (omega arith) (omega arith)) in
         let no : Still o w (site (head f)) = rw (head_site vs (low + (1 + size t)) f n.2) (s.each (low + (1 + size t)) (omega arith) (omega arith)) in (
@@ -178,7 +178,7 @@ module _ (T : ℕ) (o : Spot → Occurrence) (w : Occurrence) (i : Idle w) where
           ),
         )
     act_idle vs low (When p e t) n s u =
-        let k : 0 < size t = size_positive t in
+        let last_is_less : 0 < size t = size_positive t in
         let here : Still o w p = rw n.0 (s.each low (omega arith) (omega arith)) in
         let yes : Still o w (site (head t)) = rw (head_site vs (low + 1) t n.1) (s.each (low + 1) (omega arith) (omega arith)) in (
           side_eq (yes.term_begin ∙ sym here.begin),
@@ -191,7 +191,7 @@ module _ (T : ℕ) (o : Spot → Occurrence) (w : Occurrence) (i : Idle w) where
           ),
         )
     act_idle vs low (Block p t) n s u =
-        let k : 0 < size t = size_positive t in
+        let is_less : 0 < size t = size_positive t in
         let here : Still o w p = rw n.0 (s.each low (omega arith) (omega arith)) in
         let within : Still o w (site (head t)) = rw (head_site vs (low + 1) t n.1) (s.each (low + 1) (omega arith) (omega arith)) in (
           same_eq (within.term_begin ∙ sym here.begin),

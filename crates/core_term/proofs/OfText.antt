@@ -71,9 +71,9 @@ act_end (Pure p e) = record { form = _; proper = tt; formed = inl refl }
 act_end (Nothing p) = record { form = _; proper = tt; formed = inl refl }
 
 pub term_end : (t : Term) → Known (forms t) (End (site (head t)))
-term_end (One a) = let z = act_end a in record { form = z.form; proper = z.proper; formed = inr (inr z.formed) }
-term_end (Then a t) = let z = act_end a in record { form = z.form; proper = z.proper; formed = inr (inr (inr (in_left (act_forms a) (forms t) _ _ z.formed))) }
-term_end (Both a t) = let z = act_end a in record { form = z.form; proper = z.proper; formed = inr (inr (inr (in_left (act_forms a) (forms t) _ _ z.formed))) }
+term_end (One a) = let by_act_end = act_end a in record { form = by_act_end.form; proper = by_act_end.proper; formed = inr (inr by_act_end.formed) }
+term_end (Then a t) = let next_by_act_end = act_end a in record { form = next_by_act_end.form; proper = next_by_act_end.proper; formed = inr (inr (inr (in_left (act_forms a) (forms t) _ _ next_by_act_end.formed))) }
+term_end (Both a t) = let last_by_act_end = act_end a in record { form = last_by_act_end.form; proper = last_by_act_end.proper; formed = inr (inr (inr (in_left (act_forms a) (forms t) _ _ last_by_act_end.formed))) }
 
 pub term_begin : (t : Term) → Known (forms t) (Begin (site (head t)))
 term_begin (One a) = record { form = Same (TermBegin (site a)); proper = tt; formed = inl refl }
@@ -118,15 +118,15 @@ module _ (body : Term) where
 
   pub begin_real : (l : Bool) (q : ℕ) → IsSite q → Real (point l (Begin q))
   begin_real l q (vs, u, s, e) =
-      let z = term_begin u in
-      let P : ℕ → Type 0 = λ n. Real (point l (Begin n)) in
-      subst P e (real l (Begin (site (head u))) (record { form = z.form; proper = z.proper; formed = part s _ _ z.formed }))
+      let by_term_begin = term_begin u in
+      let Statement : ℕ → Type 0 = λ n. Real (point l (Begin n)) in
+      subst Statement e (real l (Begin (site (head u))) (record { form = by_term_begin.form; proper = by_term_begin.proper; formed = part s _ _ by_term_begin.formed }))
 
   pub end_real : (l : Bool) (q : ℕ) → IsSite q → Real (point l (End q))
   end_real l q (vs, u, s, e) =
-      let z = term_end u in
-      let P : ℕ → Type 0 = λ n. Real (point l (End n)) in
-      subst P e (real l (End (site (head u))) (record { form = z.form; proper = z.proper; formed = part s _ _ z.formed }))
+      let by_term_end = term_end u in
+      let next_Statement : ℕ → Type 0 = λ n. Real (point l (End n)) in
+      subst next_Statement e (real l (End (site (head u))) (record { form = by_term_end.form; proper = by_term_end.proper; formed = part s _ _ by_term_end.formed }))
 
   act_site : (P : Act → Type 0) (q : ℕ) → HasAct body q P → IsSite q
   act_site P q (vs, u, s, e, k) = (vs, u, s, e)
@@ -246,26 +246,26 @@ module _ (body : Term) where
   module _ (numbered : Numbered [] 0 body) where
     pub of_text : (p : Process) (j : ℕ) (rule : Rule) (first second : ℕ) (claim : Claim) → Demands p j body rule first second claim → IsOfText body claim
     of_text p j _ _ _ _ (made scope u y s k) =
-        let n = numbered_at s 0 numbered in
-        let o = scoped_term (record { count = 0; valid = λ m t. false; data_at = λ m t. 0; ack = λ m t. false }) (sees (λ t r. 0)) body numbered scope n.0 u y n.1 k in
-        (end_real false y ((scope_sited s (λ ws u z. z) no_scope).1 y o), begin_real false (site (head u)) (scope, u, s, refl))
+        let by_numbered_at = numbered_at s 0 numbered in
+        let by_scoped_term = scoped_term (record { count = 0; valid = λ m t. false; data_at = λ m t. 0; ack = λ m t. false }) (sees (λ t r. 0)) body numbered scope by_numbered_at.0 u y by_numbered_at.1 k in
+        (end_real false y ((scope_sited s (λ ws u z. z) no_scope).1 y by_scoped_term), begin_real false (site (head u)) (scope, u, s, refl))
     of_text p j _ _ _ _ (sets q r reg a b l) =
-        let i = act_site (λ a. Sets a reg) q a in let k = act_site (λ a. Sets a reg) r b in ((end_real false q i, begin_real false r k), (end_real false r k, begin_real false q i))
+        let by_act_site = act_site (λ a. Sets a reg) q a in let next_by_act_site = act_site (λ a. Sets a reg) r b in ((end_real false q by_act_site, begin_real false r next_by_act_site), (end_real false r next_by_act_site, begin_real false q by_act_site))
     of_text p j _ _ _ _ (receives q r m a b l) =
-        let i = act_site (λ a. Receives a m) q a in let k = act_site (λ a. Receives a m) r b in ((end_real false q i, begin_real false r k), (end_real false r k, begin_real false q i))
+        let last_by_act_site = act_site (λ a. Receives a m) q a in let other_by_act_site = act_site (λ a. Receives a m) r b in ((end_real false q last_by_act_site, begin_real false r other_by_act_site), (end_real false r other_by_act_site, begin_real false q last_by_act_site))
     of_text p j _ _ _ _ (sends q r m a b l) =
-        let i = act_site (λ a. Sends a m) q a in let k = act_site (λ a. Sends a m) r b in ((end_real false q i, begin_real false r k), (end_real false r k, begin_real false q i))
+        let more_by_act_site = act_site (λ a. Sends a m) q a in let further_by_act_site = act_site (λ a. Sends a m) r b in ((end_real false q more_by_act_site, begin_real false r further_by_act_site), (end_real false r further_by_act_site, begin_real false q more_by_act_site))
     of_text p j _ _ _ _ (sends_next q r m a b) = (end_real false q (act_site (λ a. Sends a m) q a), begin_real true r (act_site (λ a. Sends a m) r b))
     of_text p j _ _ _ _ (wire_within u q m k s a e) = use_of_text (head u) _ _ (user u _ s) (end_real false q (act_site (λ a. Receives a m) q a))
     of_text p j _ _ _ _ (wire_until u q m n w s a e b) =
         let i = act_site (λ a. Receives a m) q a in
         let k = act_site (λ a. OnPort a n) w b in
-        let v = user u _ s in
-        (use_of_text (head u) _ _ v (end_real false q i), (((end_real false w k, end_real false q i), use_of_text (head u) _ _ v (end_real false w k)), use_of_text (head u) _ _ v (end_real true w k)))
+        let by_user = user u _ s in
+        (use_of_text (head u) _ _ by_user (end_real false q i), (((end_real false w k, end_real false q i), use_of_text (head u) _ _ by_user (end_real false w k)), use_of_text (head u) _ _ by_user (end_real true w k)))
     of_text p j _ _ _ _ (set_elsewhere u q r i w other s found different written) = use_of_text (head u) _ _ (user u _ s) (begin_real false q (source u (RegOf q r) s))
     of_text p j _ _ _ _ (set_here u q r w s written) =
-        let i = source u (RegOf q r) s in
-        let k = act_site (λ a. Sets a r) w written in
-        let v = user u _ s in
-        (use_of_text (head u) _ _ v (begin_real false q i), (((end_real false w k, begin_real false q i), use_of_text (head u) _ _ v (begin_real false w k)), use_of_text (head u) _ _ v (begin_real true w k)))
+        let by_source = source u (RegOf q r) s in
+        let by_act_site = act_site (λ a. Sets a r) w written in
+        let next_by_user = user u _ s in
+        (use_of_text (head u) _ _ next_by_user (begin_real false q by_source), (((end_real false w by_act_site, begin_real false q by_source), use_of_text (head u) _ _ next_by_user (begin_real false w by_act_site)), use_of_text (head u) _ _ next_by_user (begin_real true w by_act_site)))
     of_text p j _ _ _ _ (choice u q s) = use_of_text (head u) _ _ (user u _ s) (begin_real true q (source u (ChoiceOf q) s))

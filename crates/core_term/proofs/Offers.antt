@@ -34,14 +34,14 @@ pub greatest_some : {A : Type 0} (f : ℕ → Option A) (n : ℕ) (a : A) → gr
 greatest_some f zero a k = absurd cc
 greatest_some f (suc n) a k = elim (or_some (f n) (greatest f n) a k) [
   | inl e ↦ (n, omega arith, e)
-  | inr e ↦ let z = greatest_some f n a e in (z.0, omega (arith, z.1), z.2)
+  | inr e ↦ let by_greatest_some = greatest_some f n a e in (by_greatest_some.0, omega (arith, by_greatest_some.1), by_greatest_some.2)
 ]
 
 least_some : {A : Type 0} (f : ℕ → Option A) (k n : ℕ) (a : A) → least f k n ≡ Some a → (q : ℕ) × (q < k + n) × (f q ≡ Some a)
 least_some f k zero a e = absurd cc
 least_some f k (suc n) a e = elim (or_some (f k) (least f (k + 1) n) a e) [
   | inl i ↦ (k, omega arith, i)
-  | inr i ↦ let z = least_some f (k + 1) n a i in (z.0, omega (arith, z.1), z.2)
+  | inr i ↦ let by_least_some = least_some f (k + 1) n a i in (by_least_some.0, omega (arith, by_least_some.1), by_least_some.2)
 ]
 
 pub or_first : {A : Type 0} (o u : Option A) → has o ≡ true → has (or_else o u) ≡ true
@@ -57,16 +57,16 @@ greatest_has f zero q l k = absurd (omega arith)
 greatest_has f (suc n) q l k = go (nat_lt q n) refl (λ m. greatest_has f n q m k)
   where
     go : (b : Bool) → nat_lt q n ≡ b → (q < n → has (greatest f n) ≡ true) → has (greatest f (suc n)) ≡ true
-    go true e r = let m : q < n = grind (arith, nat_tests) in or_second (f n) (greatest f n) (r m)
-    go false e r = let m : n ≤ q = grind (arith, nat_tests) in let m' : q ≡ n = omega arith in or_first (f n) (greatest f n) (subst (λ z. has (f z) ≡ true) m' k)
+    go true e r = let is_less : q < n = grind (arith, nat_tests) in or_second (f n) (greatest f n) (r is_less)
+    go false e r = let at_most : n ≤ q = grind (arith, nat_tests) in let m' : q ≡ n = omega arith in or_first (f n) (greatest f n) (subst (λ z. has (f z) ≡ true) m' k)
 
 least_has : {A : Type 0} (f : ℕ → Option A) (k n q : ℕ) → k ≤ q → q < k + n → has (f q) ≡ true → has (least f k n) ≡ true
 least_has f k zero q l m e = absurd (omega arith)
 least_has f k (suc n) q l m e = go (nat_lt k q) refl (λ y z. least_has f (k + 1) n q y z e)
   where
     go : (b : Bool) → nat_lt k q ≡ b → (k + 1 ≤ q → q < k + 1 + n → has (least f (k + 1) n) ≡ true) → has (least f k (suc n)) ≡ true
-    go true i r = let z : k < q = grind (arith, nat_tests) in or_second (f k) (least f (k + 1) n) (r (omega arith) (omega arith))
-    go false i r = let z : q ≤ k = grind (arith, nat_tests) in let z' : q ≡ k = omega arith in or_first (f k) (least f (k + 1) n) (subst (λ z. has (f z) ≡ true) z' e)
+    go true i r = let next_is_less : k < q = grind (arith, nat_tests) in or_second (f k) (least f (k + 1) n) (r (omega arith) (omega arith))
+    go false i r = let next_at_most : q ≤ k = grind (arith, nat_tests) in let z' : q ≡ k = omega arith in or_first (f k) (least f (k + 1) n) (subst (λ next_at_most. has (f next_at_most) ≡ true) z' e)
 
 pub and_first : (a b : Bool) → a && b ≡ true → a ≡ true
 and_first true b k = refl
@@ -92,8 +92,8 @@ on_is m (Pure p e) k = absurd cc
 on_is m (Nothing p) k = absurd cc
 
 is_on : (m : ℕ) (a : Act) → OnPort a m → on_port m a ≡ true
-is_on m (Send p n e) k = let z : n ≡ m = k in grind (arith, nat_tests)
-is_on m (Recv p n) k = let z : n ≡ m = k in grind (arith, nat_tests)
+is_on m (Send p n e) k = let equal : n ≡ m = k in grind (arith, nat_tests)
+is_on m (Recv p n) k = let next_equal : n ≡ m = k in grind (arith, nat_tests)
 is_on m (Cycle p n) k = elim k [ ]
 is_on m (Set p r e) k = elim k [ ]
 is_on m (If p e t u w) k = elim k [ ]
@@ -111,15 +111,15 @@ pub record IsPending (t s : ℕ) (o : Outcome) : Type 0 where
 pending_is : (t s : ℕ) (o : Outcome) → pending t s o ≡ true → IsPending t s o
 pending_is t s Open k = record { begun = grind (arith, nat_tests); not_ended = λ e v q. absurd cc }
 pending_is t s (Done a b) k =
-    let y = and_first (nat_le s t) (nat_le t a) k in
-    let z = and_second (nat_le s t) (nat_le t a) k in
-    record { begun = grind (arith, nat_tests); not_ended = λ e v q. let l : t ≤ a = grind (arith, nat_tests) in let w : a ≡ e = cc in omega arith }
+    let by_and_first = and_first (nat_le s t) (nat_le t a) k in
+    let by_and_second = and_second (nat_le s t) (nat_le t a) k in
+    record { begun = grind (arith, nat_tests); not_ended = λ e v q. let at_most : t ≤ a = grind (arith, nat_tests) in let last_equal : a ≡ e = cc in omega arith }
 
 is_pending : (t s : ℕ) (o : Outcome) → IsPending t s o → pending t s o ≡ true
-is_pending t s Open k = let l : s ≤ t = k.begun in grind (arith, nat_tests)
+is_pending t s Open k = let next_at_most : s ≤ t = k.begun in grind (arith, nat_tests)
 is_pending t s (Done a b) k =
-    let l : s ≤ t = k.begun in
-    let m : t ≤ a = k.not_ended a b refl in
+    let last_at_most : s ≤ t = k.begun in
+    let other_at_most : t ≤ a = k.not_ended a b refl in
     and_both (nat_le s t) (nat_le t a) (grind (arith, nat_tests)) (grind (arith, nat_tests))
 
 first_is : (p : ℕ → Bool) (s n u : ℕ) → first p s n ≡ Some u → (p u ≡ true) × (u < s + n)
@@ -127,8 +127,8 @@ first_is p s zero u k = absurd cc
 first_is p s (suc n) u k = go (p s) refl k (first_is p (s + 1) n u)
   where
     go : (b : Bool) → p s ≡ b → (if b then Some s else first p (s + 1) n) ≡ Some u → (first p (s + 1) n ≡ Some u → (p u ≡ true) × (u < s + 1 + n)) → (p u ≡ true) × (u < s + suc n)
-    go true e i r = let z : s ≡ u = cc in (subst (λ y. p y ≡ true) z e, omega arith)
-    go false e i r = let z = r i in (z.0, omega (arith, z.1))
+    go true e i r = let equal : s ≡ u = cc in (subst (λ y. p y ≡ true) equal e, omega arith)
+    go false e i r = let part = r i in (part.0, omega (arith, part.1))
 
 pub first_by : (p : ℕ → Bool) (s n t : ℕ) → s ≤ t → t < s + n → p t ≡ true → (u : ℕ) × (u ≤ t) × (first p s n ≡ Some u)
 first_by p s zero t l m k = absurd (omega arith)
@@ -139,23 +139,23 @@ first_by p s (suc n) t l m k = go (p s) refl (λ y z. first_by p (s + 1) n t y z
     go false e r = more (nat_lt s t) refl
       where
         more : (b : Bool) → nat_lt s t ≡ b → (u : ℕ) × (u ≤ t) × (first p (s + 1) n ≡ Some u)
-        more true i = let z : s < t = grind (arith, nat_tests) in r (omega arith) (omega arith)
-        more false i = let z : t ≤ s = grind (arith, nat_tests) in let z' : t ≡ s = omega arith in let y : p s ≡ true = subst (λ w. p w ≡ true) z' k in let w : true ≡ false = sym y ∙ e in absurd cc
+        more true i = let is_less : s < t = grind (arith, nat_tests) in r (omega arith) (omega arith)
+        more false i = let at_most : t ≤ s = grind (arith, nat_tests) in let z' : t ≡ s = omega arith in let decided : p s ≡ true = subst (λ w. p w ≡ true) z' k in let next_decided : true ≡ false = sym decided ∙ e in absurd cc
 
 pub found_is : (p : ℕ → Bool) (s n : ℕ) (v : ℕ → Value) (t : ℕ) (w : Value) → found (first p s n) v ≡ Done t w → (p t ≡ true) × (t < s + n) × (s ≤ t)
 found_is p s n v t w k = go (first p s n) refl k
   where
     go : (r : Option ℕ) → first p s n ≡ r → found r v ≡ Done t w → (p t ≡ true) × (t < s + n) × (s ≤ t)
     go None e i = absurd cc
-    go (Some u) e i = let z : u ≡ t = cc in let y = first_is p s n u e in let y' = first_from p s n u e in (subst (λ y. p y ≡ true) z y.0, omega (arith, y.1), omega arith)
+    go (Some u) e i = let next_equal : u ≡ t = cc in let by_first_is = first_is p s n u e in let y' = first_from p s n u e in (subst (λ by_first_is. p by_first_is ≡ true) next_equal by_first_is.0, omega (arith, by_first_is.1), omega arith)
 
 pub found_by : (p : ℕ → Bool) (s n : ℕ) (v : ℕ → Value) (t : ℕ) → s ≤ t → t < s + n → p t ≡ true → IsPending t s (found (first p s n) v) → found (first p s n) v ≡ Done t (v t)
 found_by p s n v t l m k q =
-    let z = first_by p s n t l m k in
-    let y : found (first p s n) v ≡ Done z.0 (v z.0) = ap (λ r. found r v) z.2 in
-    let w : t ≤ z.0 = q.not_ended z.0 (v z.0) y in
-    let e : z.0 ≡ t = omega (arith, z.1) in
-    y ∙ ap (λ u. Done u (v u)) e
+    let by_first_by = first_by p s n t l m k in
+    let equal : found (first p s n) v ≡ Done by_first_by.0 (v by_first_by.0) = ap (λ r. found r v) by_first_by.2 in
+    let next_at_most : t ≤ by_first_by.0 = q.not_ended by_first_by.0 (v by_first_by.0) equal in
+    let last_equal : by_first_by.0 ≡ t = omega (arith, by_first_by.1) in
+    equal ∙ ap (λ u. Done u (v u)) last_equal
 
 module _ (inputs : Inputs) (registers : ℕ → ℕ → ℕ) (body : Term) (numbered : Numbered [] 0 body) where
   pub ran : (i q : ℕ) (b : Begun inputs registers body i q) → Ran inputs (sees registers) body numbered i q b.scope b.begin b.term
@@ -165,13 +165,13 @@ module _ (inputs : Inputs) (registers : ℕ → ℕ → ℕ) (body : Term) (numb
   begun_site i q b = site_is inputs (sees registers) body numbered i q b.scope b.begin b.term (ran i q b)
 
   pub begun_stands : (i q : ℕ) (b : Begun inputs registers body i q) → (vs : List Act) × Stands [] body vs b.term
-  begun_stands i q b = let z = place inputs (sees registers) body numbered i q b.scope b.begin b.term (ran i q b) in (z.1, z.3.stands)
+  begun_stands i q b = let by_place = place inputs (sees registers) body numbered i q b.scope b.begin b.term (ran i q b) in (by_place.1, by_place.3.stands)
 
   -- where it stands in the text
   pub begun_act : (P : Act → Type 0) (i q : ℕ) (b : Begun inputs registers body i q) → P (head b.term) → HasAct body q P
   begun_act P i q b k =
-      let z = place inputs (sees registers) body numbered i q b.scope b.begin b.term (ran i q b) in
-      (z.1, b.term, z.3.stands, begun_site i q b, k)
+      let next_by_place = place inputs (sees registers) body numbered i q b.scope b.begin b.term (ran i q b) in
+      (next_by_place.1, b.term, next_by_place.3.stands, begun_site i q b, k)
 
   -- as many cycles as turns have gone by
   pub turns_take : IsTail body → (i b : ℕ) → begins inputs (sees registers) body i ≡ Some b → i ≤ b
@@ -181,16 +181,16 @@ module _ (inputs : Inputs) (registers : ℕ → ℕ → ℕ) (body : Term) (numb
       go : (o : Option ℕ) → begins inputs (sees registers) body i ≡ o → next_begin inputs (sees registers) body o ≡ Some b → ((a : ℕ) → begins inputs (sees registers) body i ≡ Some a → i ≤ a) → suc i ≤ b
       go None e f r = absurd cc
       go (Some a) e f r =
-          let z : of_outcome (ends inputs (sees registers) no_variable a body) ≡ At b = sym (body_end inputs (sees registers) body numbered a) ∙ next_from inputs (sees registers) body numbered (Some a) b f in
-          let y : a < b = takes inputs (sees registers) no_variable a body b tail z in
-          let w : i ≤ a = r a e in
+          let equal : of_outcome (ends inputs (sees registers) no_variable a body) ≡ At b = sym (body_end inputs (sees registers) body numbered a) ∙ next_from inputs (sees registers) body numbered (Some a) b f in
+          let is_less : a < b = takes inputs (sees registers) no_variable a body b tail equal in
+          let at_most : i ≤ a = r a e in
           omega arith
 
   pub turn_by : IsTail body → (i q : ℕ) (b : Begun inputs registers body i q) → i ≤ b.begin
   turn_by tail i q b =
-      let z = some_start inputs (sees registers) body numbered (begins inputs (sees registers) body i) q b.scope b.begin b.term b.runs in
-      let y = begin_since inputs (sees registers) body numbered (begins inputs (sees registers) body i) z.0 q b.begin z.1 (ap begin_at b.runs) in
-      let w = turns_take tail i z.0 z.1 in
+      let by_some_start = some_start inputs (sees registers) body numbered (begins inputs (sees registers) body i) q b.scope b.begin b.term b.runs in
+      let by_begin_since = begin_since inputs (sees registers) body numbered (begins inputs (sees registers) body i) by_some_start.0 q b.begin by_some_start.1 (ap begin_at b.runs) in
+      let by_turns_take = turns_take tail i by_some_start.0 by_some_start.1 in
       omega arith
 
 some_is : {b c : Offer} → Some b ≡ Some c → c ≡ b
@@ -226,14 +226,14 @@ module _ (inputs : Inputs) (registers : ℕ → ℕ → ℕ) where
   offered_as (thread ∷ more) m t a k =
       elim (or_some (least (λ q. greatest (λ i. offered_by inputs registers m t (run_of inputs (sees registers) thread.body i q)) (t + 1)) 0 thread.count) (offered inputs registers more m t) a k) [
         | inl e ↦
-            let z = least_some _ 0 thread.count a e in
-            let y = greatest_some _ (t + 1) a z.2 in
-            let w = offer_is thread m t y.0 z.0 _ a refl y.2 in
-            (record { j = 0; thread = thread; is = refl; turn = y.0; place = z.0; act = w.0; on = w.1; pending = w.2 }, w.3)
+            let by_least_some = least_some _ 0 thread.count a e in
+            let by_greatest_some = greatest_some _ (t + 1) a by_least_some.2 in
+            let by_offer_is = offer_is thread m t by_greatest_some.0 by_least_some.0 _ a refl by_greatest_some.2 in
+            (record { j = 0; thread = thread; is = refl; turn = by_greatest_some.0; place = by_least_some.0; act = by_offer_is.0; on = by_offer_is.1; pending = by_offer_is.2 }, by_offer_is.3)
         | inr e ↦
-            let y = offered_as more m t a e in
-            let z = y.0 in
-            (record { j = suc z.j; thread = z.thread; is = z.is; turn = z.turn; place = z.place; act = z.act; on = z.on; pending = z.pending }, y.1)
+            let by_offered_as = offered_as more m t a e in
+            let by_by_offered_as = by_offered_as.0 in
+            (record { j = suc by_by_offered_as.j; thread = by_by_offered_as.thread; is = by_by_offered_as.is; turn = by_by_offered_as.turn; place = by_by_offered_as.place; act = by_by_offered_as.act; on = by_by_offered_as.on; pending = by_by_offered_as.pending }, by_offered_as.1)
       ]
 
   pub offered_is : (threads : List Thread) (m t : ℕ) (a : Offer) → offered inputs registers threads m t ≡ Some a → OfferedIn threads m t
@@ -255,16 +255,16 @@ module _ (inputs : Inputs) (registers : ℕ → ℕ → ℕ) where
     where
       one : has (offered_by inputs registers m t (run_of inputs (sees registers) thread.body i q)) ≡ true
       one =
-          let y : on_port m (head b.term) && pending t b.begin (act_ends inputs (sees registers) b.scope b.begin (head b.term)) ≡ true = and_both _ _ (is_on m (head b.term) on) (is_pending t b.begin _ still_offered) in
-          let z : offered_by inputs registers m t (Runs b.scope b.begin b.term) ≡ Some (record { scope = b.scope; begin = b.begin; act = head b.term }) = rw y refl in
-          ap (λ w. has (offered_by inputs registers m t w)) b.runs ∙ ap has z
+          let decided : on_port m (head b.term) && pending t b.begin (act_ends inputs (sees registers) b.scope b.begin (head b.term)) ≡ true = and_both _ _ (is_on m (head b.term) on) (is_pending t b.begin _ still_offered) in
+          let equal : offered_by inputs registers m t (Runs b.scope b.begin b.term) ≡ Some (record { scope = b.scope; begin = b.begin; act = head b.term }) = rw decided refl in
+          ap (λ w. has (offered_by inputs registers m t w)) b.runs ∙ ap has equal
   has_offer (a ∷ more) m t (suc j) thread is i q l n b on still_offered = or_second _ (offered inputs registers more m t) (has_offer more m t j thread is i q l n b on still_offered)
 
   module _ (p : Process) (process : IsProcess p) where
     pub is_driven : (m t : ℕ) → OfferedIn p.threads m t → driven p inputs registers m t ≡ true
     is_driven m t o =
-        let n = process.numbered o.j o.thread o.is in
-        let c : o.thread.count ≡ size o.thread.body = process.counted o.j o.thread o.is in
-        let l : o.turn ≤ o.act.begin = turn_by inputs registers o.thread.body n (process.takes_time o.j o.thread o.is) o.turn o.place o.act in
-        let q : o.place < size o.thread.body = (ran inputs registers o.thread.body n o.turn o.place o.act).inside in
+        let by_numbered = process.numbered o.j o.thread o.is in
+        let next_equal : o.thread.count ≡ size o.thread.body = process.counted o.j o.thread o.is in
+        let at_most : o.turn ≤ o.act.begin = turn_by inputs registers o.thread.body by_numbered (process.takes_time o.j o.thread o.is) o.turn o.place o.act in
+        let is_less : o.place < size o.thread.body = (ran inputs registers o.thread.body by_numbered o.turn o.place o.act).inside in
         has_offer p.threads m t o.j o.thread o.is o.turn o.place (omega (arith, o.pending.begun)) (omega arith) o.act o.on o.pending

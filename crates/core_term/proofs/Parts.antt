@@ -23,33 +23,33 @@ module _ (inputs : Inputs) (view : Sees) (run : ℕ → Fate) where
 
   pub one_inner : (vs : List Act) (low : ℕ) (scope : ℕ → Outcome) (s : ℕ) (a : Act) → NumberedAct vs low a → Agrees run (fate inputs view scope s (One a)) low (low + act_size a) → Agrees run (inside inputs view scope s a) (low + 1) (low + act_size a)
   one_inner vs low scope s a n g =
-      let l : site a ≡ low = act_site vs low a n in
+      let equal : site a ≡ low = act_site vs low a n in
       record { each = λ q i j. g.each q (omega arith) (omega arith) ∙ pick_ne q (site a) _ _ (λ k. omega arith) }
 
   pub then_inner : (vs : List Act) (low : ℕ) (scope : ℕ → Outcome) (s : ℕ) (a : Act) (t : Term) → Numbered vs low (Then a t) → Agrees run (fate inputs view scope s (Then a t)) low (low + size (Then a t)) → Agrees run (inside inputs view scope s a) (low + 1) (low + act_size a)
   then_inner vs low scope s a t n g =
-      let l : site a ≡ low = act_site vs low a n.0 in
-      let m : site (head t) ≡ low + act_size a = head_site _ _ t n.1 in
+      let next_equal : site a ≡ low = act_site vs low a n.0 in
+      let last_equal : site (head t) ≡ low + act_size a = head_site _ _ t n.1 in
       record { each = λ q i j. g.each q (omega arith) (omega arith) ∙ (pick_lt q (site (head t)) _ _ (omega arith) ∙ pick_ne q (site a) _ _ (λ k. omega arith)) }
 
   pub both_inner : (vs : List Act) (low : ℕ) (scope : ℕ → Outcome) (s : ℕ) (a : Act) (t : Term) → Numbered vs low (Both a t) → Agrees run (fate inputs view scope s (Both a t)) low (low + size (Both a t)) → Agrees run (inside inputs view scope s a) (low + 1) (low + act_size a)
   both_inner vs low scope s a t n g =
-      let l : site a ≡ low = act_site vs low a n.0 in
-      let m : site (head t) ≡ low + act_size a = head_site _ _ t n.1 in
+      let other_equal : site a ≡ low = act_site vs low a n.0 in
+      let more_equal : site (head t) ≡ low + act_size a = head_site _ _ t n.1 in
       record { each = λ q i j. g.each q (omega arith) (omega arith) ∙ (pick_lt q (site (head t)) _ _ (omega arith) ∙ pick_ne q (site a) _ _ (λ k. omega arith)) }
 
   pub both_rest : (vs : List Act) (low : ℕ) (scope : ℕ → Outcome) (s : ℕ) (a : Act) (t : Term) → Numbered vs low (Both a t) → Agrees run (fate inputs view scope s (Both a t)) low (low + size (Both a t))
       → Agrees run (fate inputs view (bind scope (site a) (act_ends inputs view scope s a)) s t) (low + act_size a) (low + act_size a + size t)
   both_rest vs low scope s a t n g =
-      let p : 0 < act_size a = act_size_positive a in
-      let m : site (head t) ≡ low + act_size a = head_site _ _ t n.1 in
+      let is_less : 0 < act_size a = act_size_positive a in
+      let equal : site (head t) ≡ low + act_size a = head_site _ _ t n.1 in
       record { each = λ q i j. g.each q (omega arith) (omega arith) ∙ pick_ge q (site (head t)) _ _ (omega arith) }
 
   pub then_rest : (vs : List Act) (low : ℕ) (scope : ℕ → Outcome) (s : ℕ) (a : Act) (t : Term) → Numbered vs low (Then a t) → Agrees run (fate inputs view scope s (Then a t)) low (low + size (Then a t))
       → Part t (low + act_size a)
   then_rest vs low scope s a t n g =
-      let p : 0 < act_size a = act_size_positive a in
-      let m : site (head t) ≡ low + act_size a = head_site _ _ t n.1 in
+      let next_is_less : 0 < act_size a = act_size_positive a in
+      let next_equal : site (head t) ≡ low + act_size a = head_site _ _ t n.1 in
       go (act_ends inputs view scope s a) (λ q i j. g.each q (omega arith) (omega arith) ∙ pick_ge q (site (head t)) _ _ (omega arith))
     where
       go : (r : Outcome) → ((q : ℕ) → low + act_size a ≤ q → q < low + act_size a + size t → run q ≡ once inputs r (λ c v. fate inputs view (bind scope (site a) (Done c v)) c t q)) → Part t (low + act_size a)
@@ -57,8 +57,8 @@ module _ (inputs : Inputs) (view : Sees) (run : ℕ → Fate) where
       go (Done c v) w = done (nat_lt c inputs.count) refl
         where
           done : (b : Bool) → nat_lt c inputs.count ≡ b → Part t (low + act_size a)
-          done false k = none Waits idle_later (record { each = λ q i j. let u = w q i j in rw k at u })
-          done true k = some (bind scope (site a) (Done c v)) c (record { each = λ q i j. let u = w q i j in rw k at u })
+          done false k = none Waits idle_later (record { each = λ q i j. let part = w q i j in rw k at part })
+          done true k = some (bind scope (site a) (Done c v)) c (record { each = λ q i j. let next_part = w q i j in rw k at next_part })
 
   side : (b : Bool) (t : Term) (at : ℕ) (scope : ℕ → Outcome) (s : ℕ) → ((q : ℕ) → at ≤ q → q < at + size t → run q ≡ (if b then fate inputs view scope s t q else Lost)) → Part t at
   side true t at scope s w = some scope s (record { each = w })
@@ -71,13 +71,13 @@ module _ (inputs : Inputs) (view : Sees) (run : ℕ → Fate) where
   pub if_yes_is : (vs : List Act) (low : ℕ) (scope : ℕ → Outcome) (s p : ℕ) (e : Expr) (t u : Term) (w : Bool) → NumberedAct vs low (If p e t u w) → Agrees run (inside inputs view scope s (If p e t u w)) (low + 1) (low + act_size (If p e t u w))
       → (q : ℕ) → low + 1 ≤ q → q < low + 1 + size t → run q ≡ (if view.decide p s scope e then fate inputs view scope s t q else Lost)
   if_yes_is vs low scope s p e t u w n g q i j =
-      let m : site (head u) ≡ low + (1 + size t) = head_site _ _ u n.2 in
+      let equal : site (head u) ≡ low + (1 + size t) = head_site _ _ u n.2 in
       g.each q (omega arith) (omega arith) ∙ pick_lt q (site (head u)) _ _ (omega arith)
 
   pub if_no_is : (vs : List Act) (low : ℕ) (scope : ℕ → Outcome) (s p : ℕ) (e : Expr) (t u : Term) (w : Bool) → NumberedAct vs low (If p e t u w) → Agrees run (inside inputs view scope s (If p e t u w)) (low + 1) (low + act_size (If p e t u w))
       → (q : ℕ) → low + (1 + size t) ≤ q → q < low + (1 + size t) + size u → run q ≡ (if view.decide p s scope e then Lost else fate inputs view scope s u q)
   if_no_is vs low scope s p e t u w n g q i j =
-      let m : site (head u) ≡ low + (1 + size t) = head_site _ _ u n.2 in
+      let next_equal : site (head u) ≡ low + (1 + size t) = head_site _ _ u n.2 in
       g.each q (omega arith) (omega arith) ∙ pick_ge q (site (head u)) _ _ (omega arith)
 
   pub if_yes : (vs : List Act) (low : ℕ) (scope : ℕ → Outcome) (s p : ℕ) (e : Expr) (t u : Term) (w : Bool) → NumberedAct vs low (If p e t u w) → Agrees run (inside inputs view scope s (If p e t u w)) (low + 1) (low + act_size (If p e t u w)) → Part t (low + 1)
@@ -104,4 +104,4 @@ module _ (inputs : Inputs) (view : Sees) (run : ℕ → Fate) where
   none_at t at w i g b l m = still_at (begin_at w) b (still inputs view run w i (spot_site b) (g.each (spot_site b) l m))
 
   pub runs_here : (vs : List Act) (low : ℕ) (scope : ℕ → Outcome) (s : ℕ) (t : Term) → Numbered vs low t → Agrees run (fate inputs view scope s t) low (low + size t) → run low ≡ Runs scope s t
-  runs_here vs low scope s t n g = let p : 0 < size t = size_positive t in g.each low (omega arith) (omega arith) ∙ fate_head inputs view scope s vs low t n
+  runs_here vs low scope s t n g = let is_less : 0 < size t = size_positive t in g.each low (omega arith) (omega arith) ∙ fate_head inputs view scope s vs low t n

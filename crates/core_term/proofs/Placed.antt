@@ -62,7 +62,7 @@ module _ (inputs : Inputs) (view : Sees) (body : Term) (numbered : Numbered [] 0
       go (Done c v) f = done (nat_lt c inputs.count) refl f
         where
           done : (d : Bool) → nat_lt c inputs.count ≡ d → (if d then Some c else None) ≡ Some b → b < inputs.count
-          done true k g = let z : c ≡ b = cc in let w : c < inputs.count = grind (arith, nat_tests) in omega arith
+          done true k g = let equal : c ≡ b = cc in let is_less : c < inputs.count = grind (arith, nat_tests) in omega arith
           done false k g = absurd cc
 
   -- a turn begins within the list
@@ -70,27 +70,27 @@ module _ (inputs : Inputs) (view : Sees) (body : Term) (numbered : Numbered [] 0
   begins_short zero b e = go (nat_lt 0 inputs.count) refl e
     where
       go : (c : Bool) → nat_lt 0 inputs.count ≡ c → (if c then Some 0 else None) ≡ Some b → b < inputs.count
-      go true k f = let z : 0 ≡ b = cc in let w : 0 < inputs.count = grind (arith, nat_tests) in omega arith
+      go true k f = let next_equal : 0 ≡ b = cc in let next_is_less : 0 < inputs.count = grind (arith, nat_tests) in omega arith
       go false k f = absurd cc
   begins_short (suc i) b e = short (begins inputs view body i) b e
 
   place_in : (i q : ℕ) (o : Option ℕ) (b : ℕ) → o ≡ Some b → b < inputs.count → q < size body → Found inputs view (run_from inputs view body o) body b (Covered inputs view (run_from inputs view body o)) (covered_on inputs view (run_from inputs view body o)) q
   place_in i q o b e l m =
-      let P : Option ℕ → Type 0 = λ z. Found inputs view (run_from inputs view body z) body b (Covered inputs view (run_from inputs view body z)) (covered_on inputs view (run_from inputs view body z)) q in
-      subst P (sym e) (sub inputs view (run_from inputs view body (Some b)) body b (Covered inputs view (run_from inputs view body (Some b))) (covered_on inputs view (run_from inputs view body (Some b))) q [] 0 no_variable b body numbered (record { each = λ q l m. refl }) (λ y k. elim k [ ]) (λ ws u z. z) (λ y e v k. absurd cc) (omega arith, l) (omega arith) (omega arith))
+      let Statement : Option ℕ → Type 0 = λ z. Found inputs view (run_from inputs view body z) body b (Covered inputs view (run_from inputs view body z)) (covered_on inputs view (run_from inputs view body z)) q in
+      subst Statement (sym e) (sub inputs view (run_from inputs view body (Some b)) body b (Covered inputs view (run_from inputs view body (Some b))) (covered_on inputs view (run_from inputs view body (Some b))) q [] 0 no_variable b body numbered (record { each = λ q l m. refl }) (λ y k. elim k [ ]) (λ ws u z. z) (λ y e v k. absurd cc) (omega arith, l) (omega arith) (omega arith))
 
   pub place : (i q : ℕ) (scope : ℕ → Outcome) (s : ℕ) (u : Term) → Ran i q scope s u → (b : ℕ) × (vs : List Act) × (begins inputs view body i ≡ Some b) × Sub inputs view (run_of inputs view body i) body b (Covered inputs view (run_of inputs view body i)) (covered_on inputs view (run_of inputs view body i)) vs scope s u q
   place i q scope s u r =
-      let b = some_start (begins inputs view body i) q scope s u r.runs in
-      let f = place_in i q (begins inputs view body i) b.0 b.1 (begins_short i b.0 b.1) r.inside in
-      let g = rw r.runs at f.is in
-      (b.0, g.0, b.1, g.1)
+      let by_some_start = some_start (begins inputs view body i) q scope s u r.runs in
+      let by_place_in = place_in i q (begins inputs view body i) by_some_start.0 by_some_start.1 (begins_short i by_some_start.0 by_some_start.1) r.inside in
+      let fact = rw r.runs at by_place_in.is in
+      (by_some_start.0, fact.0, by_some_start.1, fact.1)
 
   pub at_begin : (i q : ℕ) (scope : ℕ → Outcome) (s : ℕ) (u : Term) → Ran i q scope s u → occurrence inputs view (run_of inputs view body i) (Begin q) ≡ At s
   at_begin i q scope s u r = ap begin_at r.runs
 
   pub site_is : (i q : ℕ) (scope : ℕ → Outcome) (s : ℕ) (u : Term) → Ran i q scope s u → site (head u) ≡ q
-  site_is i q scope s u r = let g = place i q scope s u r in head_site g.1 q u g.3.numbered
+  site_is i q scope s u r = let by_place = place i q scope s u r in head_site by_place.1 q u by_place.3.numbered
 
   scoped : (vs : List Act) (q : ℕ) (a : Act) (y : ℕ) → NumberedAct vs q a → Reads a y → OneOf vs y
   scoped vs q (Set p r e) y n k = n.1 y k
@@ -111,35 +111,35 @@ module _ (inputs : Inputs) (view : Sees) (body : Term) (numbered : Numbered [] 0
 
   pub done_from : (o : Outcome) (t : ℕ) → of_outcome o ≡ At t → (v : Value) × (o ≡ Done t v)
   done_from Open t e = absurd (idle_not idle_later e)
-  done_from (Done a v) t e = let z : a ≡ t = cc in (v, ap (λ a. Done a v) z)
+  done_from (Done a v) t e = let equal : a ≡ t = cc in (v, ap (λ a. Done a v) equal)
 
   -- each variable is made before it is read
   pub made_first : MadeFirst body → (i q : ℕ) (scope : ℕ → Outcome) (s : ℕ) (u : Term) → Ran i q scope s u → (y : ℕ) → Reads (head u) y → (e : ℕ) × (v : Value) × (scope y ≡ Done e v) × (e ≤ s)
   made_first rule i q scope s u r y k =
-      let g = place i q scope s u r in
-      let c = g.3.scope y (scoped_term g.1 q u y g.3.numbered k) in
-      let b : occurrence inputs view (run_of inputs view body i) (Begin (site (head u))) ≡ At s = rw (site_is i q scope s u r) (at_begin i q scope s u r) in
-      let l : s < inputs.count = g.3.fits.1 in
-      elim (order_law inputs view body numbered i 0 (point false (End y)) (point false (Begin (site (head u)))) (pos 0) (rule g.1 u g.3.stands y k) (inl refl) s b (omega (arith, ints))) [
-        | inl lost ↦ absurd (not_gone inputs view (run_of inputs view body i) (scope y) (sym c.1 ∙ lost))
-        | inr z ↦ let d = done_from (scope y) z.0 (sym c.1 ∙ z.2) in (z.0, d.0, d.1, omega (arith, ints))
+      let next_by_place = place i q scope s u r in
+      let by_scope = next_by_place.3.scope y (scoped_term next_by_place.1 q u y next_by_place.3.numbered k) in
+      let next_equal : occurrence inputs view (run_of inputs view body i) (Begin (site (head u))) ≡ At s = rw (site_is i q scope s u r) (at_begin i q scope s u r) in
+      let is_less : s < inputs.count = next_by_place.3.fits.1 in
+      elim (order_law inputs view body numbered i 0 (point false (End y)) (point false (Begin (site (head u)))) (pos 0) (rule next_by_place.1 u next_by_place.3.stands y k) (inl refl) s next_equal (omega (arith, ints))) [
+        | inl lost ↦ absurd (not_gone inputs view (run_of inputs view body i) (scope y) (sym by_scope.1 ∙ lost))
+        | inr z ↦ let by_done_from = done_from (scope y) z.0 (sym by_scope.1 ∙ z.2) in (z.0, by_done_from.0, by_done_from.1, omega (arith, ints))
       ]
 
   -- the act that makes a variable has ended by then
   pub made_there : MadeFirst body → (i q : ℕ) (scope : ℕ → Outcome) (s : ℕ) (u : Term) → Ran i q scope s u → (y : ℕ) → Reads (head u) y → (e : ℕ) × (occurrence inputs view (run_of inputs view body i) (End y) ≡ At e) × (e ≤ s)
   made_there rule i q scope s u r y k =
-      let g = place i q scope s u r in
-      let c = g.3.scope y (scoped_term g.1 q u y g.3.numbered k) in
-      let z = made_first rule i q scope s u r y k in
-      (z.0, c.1 ∙ ap of_outcome z.2, z.3)
+      let by_place = place i q scope s u r in
+      let next_by_scope = by_place.3.scope y (scoped_term by_place.1 q u y by_place.3.numbered k) in
+      let by_made_first = made_first rule i q scope s u r y k in
+      (by_made_first.0, next_by_scope.1 ∙ ap of_outcome by_made_first.2, by_made_first.3)
 
   -- a begin of turn i, against any point that the text puts after it
   begins_by : (i k q : ℕ) (scope : ℕ → Outcome) (s : ℕ) (u : Term) → Ran i q scope s u → (l : Bool) (b : Spot) (d t : ℕ) → Precedes body (point false (Begin (site (head u)))) (pos d) (point l b) → Occurs inputs view body numbered i k (point l b) t → t < inputs.count + d → s + d ≤ t
   begins_by i k q scope s u r l b d t p e m =
-      let f : occurrence inputs view (run_of inputs view body i) (Begin (site (head u))) ≡ At s = rw (site_is i q scope s u r) (at_begin i q scope s u r) in
+      let equal : occurrence inputs view (run_of inputs view body i) (Begin (site (head u))) ≡ At s = rw (site_is i q scope s u r) (at_begin i q scope s u r) in
       elim (order_law inputs view body numbered i k (point false (Begin (site (head u)))) (point l b) (pos d) p (inl refl) t e (omega (arith, ints))) [
-        | inl lost ↦ let z : At s ≡ Gone = sym f ∙ lost in absurd (idle_not idle_gone (sym z))
-        | inr z ↦ let y : At s ≡ At z.0 = sym f ∙ z.2 in let w : s ≡ z.0 = cc in omega (arith, ints)
+        | inl lost ↦ let next_equal : At s ≡ Gone = sym equal ∙ lost in absurd (idle_not idle_gone (sym next_equal))
+        | inr z ↦ let last_equal : At s ≡ At z.0 = sym equal ∙ z.2 in let other_equal : s ≡ z.0 = cc in omega (arith, ints)
       ]
 
   pub set_end : (scope : ℕ → Outcome) (s r : ℕ) (a : Act) → Sets a r → of_outcome (act_ends inputs view scope s a) ≡ At (s + 1)
@@ -157,52 +157,52 @@ module _ (inputs : Inputs) (view : Sees) (body : Term) (numbered : Numbered [] 0
   -- the end of a set, against a point of the same turn
   set_by : (i q : ℕ) (scope : ℕ → Outcome) (s r : ℕ) (u : Term) → Ran i q scope s u → Sets (head u) r → (b : Spot) (t : ℕ) → Precedes body (point false (End (site (head u)))) (pos 0) (point false b) → occurrence inputs view (run_of inputs view body i) b ≡ At t → t < inputs.count → s < t
   set_by i q scope s r u n k b t p e m =
-      let f : occurrence inputs view (run_of inputs view body i) (End (site (head u))) ≡ At (s + 1) = rw (site_is i q scope s u n) (ap (end_at inputs view) n.runs ∙ set_end scope s r (head u) k) in
+      let more_equal : occurrence inputs view (run_of inputs view body i) (End (site (head u))) ≡ At (s + 1) = rw (site_is i q scope s u n) (ap (end_at inputs view) n.runs ∙ set_end scope s r (head u) k) in
       elim (order_law inputs view body numbered i 0 (point false (End (site (head u)))) (point false b) (pos 0) p (inl refl) t e (omega (arith, ints))) [
-        | inl lost ↦ let z : At (s + 1) ≡ Gone = sym f ∙ lost in absurd (idle_not idle_gone (sym z))
-        | inr z ↦ let y : At (s + 1) ≡ At z.0 = sym f ∙ z.2 in let w : s + 1 ≡ z.0 = cc in omega (arith, ints)
+        | inl lost ↦ let further_equal : At (s + 1) ≡ Gone = sym more_equal ∙ lost in absurd (idle_not idle_gone (sym further_equal))
+        | inr z ↦ let equal : At (s + 1) ≡ At z.0 = sym more_equal ∙ z.2 in let next_equal : s + 1 ≡ z.0 = cc in omega (arith, ints)
       ]
 
   pub turn_end : (o : Option ℕ) (b e : ℕ) → o ≡ Some b → occurrence inputs view (run_from inputs view body o) (TermEnd (site (head body))) ≡ At e → of_outcome (ends inputs view no_variable b body) ≡ At e
   turn_end o b e k l =
-      let P : Option ℕ → Type 0 = λ z. occurrence inputs view (run_from inputs view body z) (TermEnd (site (head body))) ≡ At e in
-      sym (body_end inputs view body numbered b) ∙ subst P k l
+      let Statement : Option ℕ → Type 0 = λ z. occurrence inputs view (run_from inputs view body z) (TermEnd (site (head body))) ≡ At e in
+      sym (body_end inputs view body numbered b) ∙ subst Statement k l
 
   pub ended_in : (i q : ℕ) (o : Option ℕ) (b e : ℕ) → o ≡ Some b → of_outcome (ends inputs view no_variable b body) ≡ At e → q < size body → EndedIn inputs view (run_from inputs view body o) (run_from inputs view body o q) e (e + 1)
   ended_in i q o b e k l m =
-      let P : Option ℕ → Type 0 = λ z. EndedIn inputs view (run_from inputs view body z) (run_from inputs view body z q) e (e + 1) in
-      subst P (sym k) (ended inputs view (run_from inputs view body (Some b)) [] 0 no_variable b body e numbered (record { each = λ q l m. refl }) l q (omega arith) (omega arith)).is
+      let next_Statement : Option ℕ → Type 0 = λ z. EndedIn inputs view (run_from inputs view body z) (run_from inputs view body z q) e (e + 1) in
+      subst next_Statement (sym k) (ended inputs view (run_from inputs view body (Some b)) [] 0 no_variable b body e numbered (record { each = λ q l m. refl }) l q (omega arith) (omega arith)).is
 
   -- a set of an earlier turn has ended by the begin of a later one
   set_earlier : (j k q : ℕ) (scope : ℕ → Outcome) (s r : ℕ) (u : Term) → Ran j q scope s u → Sets (head u) r → (b : ℕ) → begins inputs view body (suc (k + j)) ≡ Some b → s < b
   set_earlier j k q scope s r u n m b e =
-      let z = later_turn inputs view body numbered j k b e in
-      let o = some_start (begins inputs view body j) q scope s u n.runs in
-      let y = ended_in j q (begins inputs view body j) o.0 z.0 o.1 (turn_end (begins inputs view body j) o.0 z.0 o.1 z.2) n.inside in
-      let w = rw n.runs at y in
-      let f : At (s + 1) ≡ At w.0 = sym (set_end scope s r (head u) m) ∙ w.1 in
-      let g : s + 1 ≡ w.0 = cc in
-      omega (arith, w.2, z.1)
+      let by_later_turn = later_turn inputs view body numbered j k b e in
+      let by_some_start = some_start (begins inputs view body j) q scope s u n.runs in
+      let by_ended_in = ended_in j q (begins inputs view body j) by_some_start.0 by_later_turn.0 by_some_start.1 (turn_end (begins inputs view body j) by_some_start.0 by_later_turn.0 by_some_start.1 by_later_turn.2) n.inside in
+      let fact = rw n.runs at by_ended_in in
+      let equal : At (s + 1) ≡ At fact.0 = sym (set_end scope s r (head u) m) ∙ fact.1 in
+      let next_equal : s + 1 ≡ fact.0 = cc in
+      omega (arith, fact.2, by_later_turn.1)
 
   -- what began in an earlier turn began by the begin of a later one
   begun_earlier : (j k q : ℕ) (scope : ℕ → Outcome) (s : ℕ) (u : Term) → Ran j q scope s u → (b : ℕ) → begins inputs view body (suc (k + j)) ≡ Some b → s ≤ b
   begun_earlier j k q scope s u n b e =
-      let z = later_turn inputs view body numbered j k b e in
-      let o = some_start (begins inputs view body j) q scope s u n.runs in
-      let y = ended_in j q (begins inputs view body j) o.0 z.0 o.1 (turn_end (begins inputs view body j) o.0 z.0 o.1 z.2) n.inside in
-      let w = rw n.runs at y in
-      let f : s ≤ w.0 = act_from inputs view scope s (head u) w.0 w.1 in
-      omega (arith, w.2, z.1)
+      let next_by_later_turn = later_turn inputs view body numbered j k b e in
+      let next_by_some_start = some_start (begins inputs view body j) q scope s u n.runs in
+      let next_by_ended_in = ended_in j q (begins inputs view body j) next_by_some_start.0 next_by_later_turn.0 next_by_some_start.1 (turn_end (begins inputs view body j) next_by_some_start.0 next_by_later_turn.0 next_by_some_start.1 next_by_later_turn.2) n.inside in
+      let next_fact = rw n.runs at next_by_ended_in in
+      let at_most : s ≤ next_fact.0 = act_from inputs view scope s (head u) next_fact.0 next_fact.1 in
+      omega (arith, next_fact.2, next_by_later_turn.1)
 
   pub begin_since : (o : Option ℕ) (b p t : ℕ) → o ≡ Some b → occurrence inputs view (run_from inputs view body o) (Begin p) ≡ At t → b ≤ t
   begin_since o b p t k l =
-      let P : Option ℕ → Type 0 = λ z. occurrence inputs view (run_from inputs view body z) (Begin p) ≡ At t in
-      go (fate inputs view no_variable b body p) (subst P k l) (fate_from inputs view no_variable b body p)
+      let Statement : Option ℕ → Type 0 = λ z. occurrence inputs view (run_from inputs view body z) (Begin p) ≡ At t in
+      go (fate inputs view no_variable b body p) (subst Statement k l) (fate_from inputs view no_variable b body p)
     where
       go : (w : Fate) → begin_at w ≡ At t → BeginsFrom b w → b ≤ t
       go Waits e m = absurd (idle_not idle_later e)
       go Lost e m = absurd (idle_not idle_gone e)
-      go (Runs scope s u) e m = let z : s ≡ t = cc in omega arith
+      go (Runs scope s u) e m = let equal : s ≡ t = cc in omega arith
 
   pub data Turns (i j : ℕ) : Type 0 where
     same : i ≡ j → Turns i j
@@ -213,12 +213,12 @@ module _ (inputs : Inputs) (view : Sees) (body : Term) (numbered : Numbered [] 0
   turns i j = go (nat_lt i j) refl (nat_lt j i) refl
     where
       go : (b : Bool) → nat_lt i j ≡ b → (c : Bool) → nat_lt j i ≡ c → Turns i j
-      go true e c f = let k : i < j = grind (arith, nat_tests) in next (j - suc i) (omega arith)
-      go false e true f = let k : j < i = grind (arith, nat_tests) in past (i - suc j) (omega arith)
-      go false e false f = let k : j ≤ i = grind (arith, nat_tests) in let l : i ≤ j = grind (arith, nat_tests) in same (omega arith)
+      go true e c f = let is_less : i < j = grind (arith, nat_tests) in next (j - suc i) (omega arith)
+      go false e true f = let next_is_less : j < i = grind (arith, nat_tests) in past (i - suc j) (omega arith)
+      go false e false f = let next_at_most : j ≤ i = grind (arith, nat_tests) in let last_at_most : i ≤ j = grind (arith, nat_tests) in same (omega arith)
 
   at_true : (i k w s : ℕ) (j : ℕ) → j ≡ suc (k + i) → occurrence inputs view (run_of inputs view body j) (Begin w) ≡ At s → Occurs inputs view body numbered i k (point true (Begin w)) s
-  at_true i k w s j e f = let P : ℕ → Type 0 = λ z. occurrence inputs view (run_of inputs view body z) (Begin w) ≡ At s in subst P e f
+  at_true i k w s j e f = let next_Statement : ℕ → Type 0 = λ z. occurrence inputs view (run_of inputs view body z) (Begin w) ≡ At s in subst next_Statement e f
 
   -- no `if` decides again while its side is in use, for a use in the cycle of a begin
   pub choices_kept : ChoicesKept body → (i q : ℕ) (scope : ℕ → Outcome) (s : ℕ) (u : Term) → Ran i q scope s u → (e : Expr) → UsesAtOnce (head u) e → (p t : ℕ) → Has (value view.registers scope s e).atoms (Choice p t)
@@ -243,13 +243,13 @@ module _ (inputs : Inputs) (view : Sees) (body : Term) (numbered : Numbered [] 0
       split : occurrence inputs view (run_of inputs view body i) (Begin p) ≡ At t → Precedes body (point false (Begin (site (head u)))) (pos 1) (point true (Begin p)) → Turns i j → ⊥
       split at_i f (same z) =
           let y' = short' in
-          let P : ℕ → Type 0 = λ z. occurrence inputs view (run_of inputs view body z) (Begin p) ≡ At t in
-          let y : At t ≡ At s' = sym (subst P z at_i) ∙ at_p in let w : t ≡ s' = cc in omega arith
-      split at_i f (next d z) = let y' = short' in let a = begins_by i d q scope s u n true (Begin p) 1 s' f (at_true i d p s' j z at_p) (omega arith) in omega arith
+          let Statement : ℕ → Type 0 = λ z. occurrence inputs view (run_of inputs view body z) (Begin p) ≡ At t in
+          let equal : At t ≡ At s' = sym (subst Statement z at_i) ∙ at_p in let next_equal : t ≡ s' = cc in omega arith
+      split at_i f (next d z) = let y' = short' in let by_begins_by = begins_by i d q scope s u n true (Begin p) 1 s' f (at_true i d p s' j z at_p) (omega arith) in omega arith
       split at_i f (past d z) =
-          let P : ℕ → Type 0 = λ z. begins inputs view body z ≡ Some g.0 in
+          let next_Statement : ℕ → Type 0 = λ z. begins inputs view body z ≡ Some g.0 in
           let a' = begin_since (begins inputs view body i) g.0 p t g.2 at_i in
-          let a = begun_earlier j d p scope' s' v m g.0 (subst P z g.2) in omega arith
+          let by_begun_earlier = begun_earlier j d p scope' s' v m g.0 (subst next_Statement z g.2) in omega arith
 
       go : (a : Source) → Has (expr_sources (site (head u)) (sources_in g.1) e) a → Matches inputs view (run_of inputs view body i) a (Choice p t) → ⊥
       go (WireOf p') i' f = f
@@ -281,13 +281,13 @@ module _ (inputs : Inputs) (view : Sees) (body : Term) (numbered : Numbered [] 0
 
       go : Turns i j → (i ≡ j) × (q ≡ w)
       go (next d z) =
-          let P : ℕ → Type 0 = λ z. begins inputs view body z ≡ Some g'.0 in
-          let a = set_earlier i d q scope s r u n k g'.0 (subst P z g'.2) in
-          let c = g'.3.fits.0 in absurd (omega arith)
+          let Statement : ℕ → Type 0 = λ z. begins inputs view body z ≡ Some g'.0 in
+          let by_set_earlier = set_earlier i d q scope s r u n k g'.0 (subst Statement z g'.2) in
+          let by_fits = g'.3.fits.0 in absurd (omega arith)
       go (past d z) =
-          let P : ℕ → Type 0 = λ z. begins inputs view body z ≡ Some g.0 in
-          let a = set_earlier j d w scope' s r v m l g.0 (subst P z g.2) in
-          let c = g.3.fits.0 in absurd (omega arith)
+          let next_Statement : ℕ → Type 0 = λ z. begins inputs view body z ≡ Some g.0 in
+          let next_by_set_earlier = set_earlier j d w scope' s r v m l g.0 (subst next_Statement z g.2) in
+          let next_by_fits = g.3.fits.0 in absurd (omega arith)
       go (same z) = (z, apart_or (same_or_not q w))
         where
           same_or_not : (a c : ℕ) → (a ≡ c) ⊎ (a ≡ c → ⊥)
@@ -296,10 +296,10 @@ module _ (inputs : Inputs) (view : Sees) (body : Term) (numbered : Numbered [] 0
           apart_or : (q ≡ w) ⊎ (q ≡ w → ⊥) → q ≡ w
           apart_or (inl e) = e
           apart_or (inr f) =
-              let P : ℕ → Type 0 = λ y. occurrence inputs view (run_of inputs view body y) (Begin (site (head v))) ≡ At s in
-              let Q : ℕ → Type 0 = λ y. occurrence inputs view (run_of inputs view body y) (Begin (site (head u))) ≡ At s in
-              let y = g.3.fits.1 in
+              let last_Statement : ℕ → Type 0 = λ y. occurrence inputs view (run_of inputs view body y) (Begin (site (head v))) ≡ At s in
+              let other_Statement : ℕ → Type 0 = λ y. occurrence inputs view (run_of inputs view body y) (Begin (site (head u))) ≡ At s in
+              let last_by_fits = g.3.fits.1 in
               elim (rule g.1 g'.1 u v g.3.stands g'.3.stands r k l (λ e. f (sym is_u ∙ (e ∙ is_v)))) [
-                | inl a ↦ let o = set_by i q scope s r u n k (Begin (site (head v))) s a (subst P (sym z) b') y in absurd (omega arith)
-                | inr a ↦ let o = set_by j w scope' s r v m l (Begin (site (head u))) s a (subst Q z b) y in absurd (omega arith)
+                | inl a ↦ let by_set_by = set_by i q scope s r u n k (Begin (site (head v))) s a (subst last_Statement (sym z) b') last_by_fits in absurd (omega arith)
+                | inr a ↦ let next_by_set_by = set_by j w scope' s r v m l (Begin (site (head u))) s a (subst other_Statement z b) last_by_fits in absurd (omega arith)
               ]

@@ -59,7 +59,7 @@ thread_is zero thread k = (refl, k)
 thread_is (suc j) thread k = elim k [ ]
 
 on_thread : (P : ℕ → Thread → Type 0) → P 0 (record { body = body; count = 2 }) → (j : ℕ) (thread : Thread) → IsThread counter.threads j thread → P j thread
-on_thread P k j thread is = let z = thread_is j thread is in let y : P 0 thread = subst (λ t. P 0 t) z.1 k in rw z.0 y
+on_thread P k j thread is = let by_thread_is = thread_is j thread is in let the_p : P 0 thread = subst (λ t. P 0 t) by_thread_is.1 k in rw by_thread_is.0 the_p
 
 no_life : (m : ℕ) (e : LifeEnd) → Has (life_of counter m) e → ⊥
 no_life zero e k = k
@@ -95,8 +95,8 @@ module _ (inputs : Inputs) where
   -- where an act of either walk stands
   stands : (g : Sees) (i q : ℕ) (scope : ℕ → Outcome) (s : ℕ) (u : Term) → run_of inputs g body i q ≡ Runs scope s u → (vs : List Act) × Stands [] body vs u × (s < inputs.count)
   stands g i q scope s u e =
-      let z = place inputs g body numbered i q scope s u (record { inside = within inputs body numbered g i q scope s u e; runs = e }) in
-      (z.1, z.3.stands, z.3.fits.1)
+      let by_place = place inputs g body numbered i q scope s u (record { inside = within inputs body numbered g i q scope s u e; runs = e }) in
+      (by_place.1, by_place.3.stands, by_place.3.fits.1)
 
   same : (t : ℕ) → t < inputs.count → (i q : ℕ) → SameFate t (run_of inputs (sees registers) body i q) (run_of inputs again body i q)
   same t l =
@@ -104,7 +104,7 @@ module _ (inputs : Inputs) where
       (λ i q s scope scope' u f e e' k m n o. absurd (no_asks f (stands (sees registers) i q scope s u e).1 k))
 
   uses_next : {vs : List Act} {u : Term} (e : Expr) → Stands [] body vs u → Uses (head u) e → next ≡ e
-  uses_next e s k = elim (heads s) [ inl i ↦ (let z : Uses (Set 0 0 next) e = subst (λ a. Uses a e) i k in z) | inr i ↦ absurd (let z : Uses (Cycle 1 2) e = subst (λ a. Uses a e) i k in z) ]
+  uses_next e s k = elim (heads s) [ inl i ↦ (let the_uses : Uses (Set 0 0 next) e = subst (λ a. Uses a e) i k in the_uses) | inr i ↦ absurd (let next_the_uses : Uses (Cycle 1 2) e = subst (λ a. Uses a e) i k in next_the_uses) ]
 
   -- what a set writes, told by the registers alone
   abbrev step : ℕ → ℕ
@@ -119,15 +119,15 @@ module _ (inputs : Inputs) where
   -- a set of the re-reading walk is one of the source walk
   source_set : (i q : ℕ) (b : Begins inputs run 0 body i q) → Begun inputs registers body i q
   source_set i q b =
-      let l = (stands again i q b.scope b.begin b.term b.runs).2 in
-      let o = (same b.begin l i q).back b.scope b.begin b.term b.runs (omega arith) in
-      record { scope = o.0; begin = b.begin; term = b.term; runs = o.1 }
+      let by_stands = (stands again i q b.scope b.begin b.term b.runs).2 in
+      let by_same = (same b.begin by_stands i q).back b.scope b.begin b.term b.runs (omega arith) in
+      record { scope = by_same.0; begin = b.begin; term = b.term; runs = by_same.1 }
 
   set_written : (i q r : ℕ) (scope : ℕ → Outcome) (s : ℕ) (u : Term) → run_of inputs again body i q ≡ Runs scope s u → Sets (head u) r → has (written_by inputs registers counter.threads r s) ≡ true
   set_written i q r scope s u e k =
-      let l = (stands again i q scope s u e).2 in
-      let o = (same s l i q).back scope s u e (omega arith) in
-      is_written inputs registers counter process r s 0 (record { body = body; count = 2 }) refl i q (record { scope = o.0; begin = s; term = u; runs = o.1 }) k refl
+      let next_by_stands = (stands again i q scope s u e).2 in
+      let next_by_same = (same s next_by_stands i q).back scope s u e (omega arith) in
+      is_written inputs registers counter process r s 0 (record { body = body; count = 2 }) refl i q (record { scope = next_by_same.0; begin = s; term = u; runs = next_by_same.1 }) k refl
 
   history : IsHistory counter inputs registers
   history = is_history counter inputs
@@ -141,18 +141,18 @@ module _ (inputs : Inputs) where
 
       go : (o : Option ℕ) → written_by inputs registers counter.threads r t ≡ o → has o ≡ true → get_else o (registers t r) ≡ step t
       go None e k = absurd cc
-      go (Some v) e k = let w = written_is inputs registers counter.threads r t v e in number_of v w.j w.thread w.is w.turn w.place w.act w.expr w.uses w.now w.number
+      go (Some v) e k = let by_written_is = written_is inputs registers counter.threads r t v e in number_of v by_written_is.j by_written_is.thread by_written_is.is by_written_is.turn by_written_is.place by_written_is.act by_written_is.expr by_written_is.uses by_written_is.now by_written_is.number
 
   kept_reg : (t r : ℕ) → t < inputs.count → ((i q : ℕ) (scope : ℕ → Outcome) (u : Term) → run_of inputs again body i q ≡ Runs scope t u → Sets (head u) r → ⊥) → registers (t + 1) r ≡ registers t r
   kept_reg t r l none = history.step t r l ∙ go (written_by inputs registers counter.threads r t) refl
     where
       no_source : (j : ℕ) (thread : Thread) → IsThread counter.threads j thread → (i q : ℕ) (b : Begun inputs registers thread.body i q) → Sets (head b.term) r → b.begin ≡ t → ⊥
       no_source j thread is i q = on_thread (λ j thread. (b : Begun inputs registers thread.body i q) → Sets (head b.term) r → b.begin ≡ t → ⊥)
-          (λ b k n. let o = (same t l i q).there b.scope b.begin b.term b.runs (omega (arith, n)) in none i q o.0 b.term (subst (λ s. run_of inputs again body i q ≡ Runs o.0 s b.term) n o.1) k) j thread is
+          (λ b k n. let by_same = (same t l i q).there b.scope b.begin b.term b.runs (omega (arith, n)) in none i q by_same.0 b.term (subst (λ s. run_of inputs again body i q ≡ Runs by_same.0 s b.term) n by_same.1) k) j thread is
 
       go : (o : Option ℕ) → written_by inputs registers counter.threads r t ≡ o → get_else o (registers t r) ≡ registers t r
       go None e = refl
-      go (Some v) e = let w = written_is inputs registers counter.threads r t v e in absurd (no_source w.j w.thread w.is w.turn w.place w.act w.sets w.now)
+      go (Some v) e = let next_by_written_is = written_is inputs registers counter.threads r t v e in absurd (no_source next_by_written_is.j next_by_written_is.thread next_by_written_is.is next_by_written_is.turn next_by_written_is.place next_by_written_is.act next_by_written_is.sets next_by_written_is.now)
 
   no_port : (j : ℕ) (thread : Thread) → IsThread counter.threads j thread → (m i q : ℕ) (b : Begins inputs run j thread.body i q) → OnPort (head b.term) m → ⊥
   no_port j thread is m i q = on_thread (λ j thread. (b : Begins inputs run j thread.body i q) → OnPort (head b.term) m → ⊥)

@@ -23,8 +23,8 @@ pub record Together (t : ℕ) (x x' : Inputs) (h h' : ℕ → ℕ → ℕ) : Typ
 pub together : (t : ℕ) (x x' : Inputs) (h h' : ℕ → ℕ → ℕ) → SameRows (t + 1) x x' → ((u r : ℕ) → u ≤ t → h u r ≡ h' u r) → Together t x x' h h'
 together t x x' h h' rows same = record {
   alike = record {
-    long = let l = rows.long in omega arith;
-    long' = let l = rows.other_long in omega arith;
+    long = let by_long = rows.long in omega arith;
+    long' = let by_other_long = rows.other_long in omega arith;
     valid = λ m u l. rows.valid m u (omega arith);
     data_at = λ m u l. rows.data_at m u (omega arith);
     ack = λ m u l. rows.ack m u (omega arith);
@@ -39,7 +39,7 @@ begin_after_from x b s Open k e = absurd cc
 begin_after_from x b s (Done c v) k e = go (nat_lt c x.count) e
   where
     go : (d : Bool) → (if d then Some c else None) ≡ Some s → b ≤ s
-    go true i = let z : c ≡ s = cc in omega arith
+    go true i = let equal : c ≡ s = cc in omega arith
     go false i = absurd cc
 
 -- the begin of a turn, if it is there by cycle t
@@ -54,32 +54,32 @@ module _ (t : ℕ) (body : Term) where
     where
       go : (b : Bool) → (if b then Some c else None) ≡ Some s → begin_after x' o' ≡ Some s
       go true j =
-          let z : c ≡ s = cc in
-          let m : c ≤ t = omega arith in
-          let i : nat_lt c x'.count ≡ true = grind (arith, nat_tests) in
-          rw (k c v m refl, i) j
+          let next_equal : c ≡ s = cc in
+          let at_most : c ≤ t = omega arith in
+          let decided : nat_lt c x'.count ≡ true = grind (arith, nat_tests) in
+          rw (k c v at_most refl, decided) j
       go false j = absurd cc
 
   next_there : (x x' : Inputs) (h h' : Sees) → Alike t x x' h h' → (o o' : Option ℕ) → ((s : ℕ) → o ≡ Some s → s ≤ t → o' ≡ Some s) → (s : ℕ) → next_begin x h body o ≡ Some s → s ≤ t → next_begin x' h' body o' ≡ Some s
   next_there x x' h h' a None o' k s e l = absurd cc
   next_there x x' h h' a (Some b) o' k s e l =
-      let m : b ≤ s = begin_after_from x b s (ends x h no_variable b body) (ends_from x h no_variable b body) e in
-      let n : b ≤ t = omega arith in
-      rw (k b refl n) (begin_there x x' a.long' _ _ (ends_same t x x' h h' a no_variable no_variable b n (λ y. same_refl t (no_variable y)) body).there s e l)
+      let next_at_most : b ≤ s = begin_after_from x b s (ends x h no_variable b body) (ends_from x h no_variable b body) e in
+      let last_at_most : b ≤ t = omega arith in
+      rw (k b refl last_at_most) (begin_there x x' a.long' _ _ (ends_same t x x' h h' a no_variable no_variable b last_at_most (λ y. same_refl t (no_variable y)) body).there s e l)
 
   module _ (x x' : Inputs) (h h' : Sees) (a : Alike t x x' h h') where
     begins_same : (i : ℕ) → SameBegin t (begins x h body i) (begins x' h' body i)
     begins_same zero =
-        let l : t < x.count = a.long in
+        let is_less : t < x.count = a.long in
         let l' : t < x'.count = a.long' in
-        let i : nat_lt 0 x.count ≡ true = grind (arith, nat_tests) in
+        let next_decided : nat_lt 0 x.count ≡ true = grind (arith, nat_tests) in
         let i' : nat_lt 0 x'.count ≡ true = grind (arith, nat_tests) in
-        rw (i, i') (record { there = λ s e l. e; back = λ s e l. e })
+        rw (next_decided, i') (record { there = λ s e is_less. e; back = λ s e is_less. e })
     begins_same (suc i) =
-        let k = begins_same i in
+        let by_begins_same = begins_same i in
         record {
-          there = next_there x x' h h' a (begins x h body i) (begins x' h' body i) k.there;
-          back = next_there x' x h' h (swap a) (begins x' h' body i) (begins x h body i) k.back;
+          there = next_there x x' h h' a (begins x h body i) (begins x' h' body i) by_begins_same.there;
+          back = next_there x' x h' h (swap a) (begins x' h' body i) (begins x h body i) by_begins_same.back;
         }
 
     late_after : (y : Inputs) (g : Sees) (s q : ℕ) → t < s → Late t (fate y g no_variable s body q)
@@ -91,29 +91,29 @@ module _ (t : ℕ) (body : Term) where
     turn_same q None (Some s) k = go (nat_le s t) refl
       where
         go : (b : Bool) → nat_le s t ≡ b → SameFate t Waits (fate x' h' no_variable s body q)
-        go true e = let m : s ≤ t = grind (arith, nat_tests) in let z = k.back s refl m in absurd cc
-        go false e = let m : t < s = grind (arith, nat_tests) in same_late (waits_late t) (late_after x' h' s q m)
+        go true e = let at_most : s ≤ t = grind (arith, nat_tests) in let by_back = k.back s refl at_most in absurd cc
+        go false e = let next_is_less : t < s = grind (arith, nat_tests) in same_late (waits_late t) (late_after x' h' s q next_is_less)
     turn_same q (Some s) None k = go (nat_le s t) refl
       where
         go : (b : Bool) → nat_le s t ≡ b → SameFate t (fate x h no_variable s body q) Waits
-        go true e = let m : s ≤ t = grind (arith, nat_tests) in let z = k.there s refl m in absurd cc
-        go false e = let m : t < s = grind (arith, nat_tests) in same_late (late_after x h s q m) (waits_late t)
+        go true e = let next_at_most : s ≤ t = grind (arith, nat_tests) in let by_there = k.there s refl next_at_most in absurd cc
+        go false e = let last_is_less : t < s = grind (arith, nat_tests) in same_late (late_after x h s q last_is_less) (waits_late t)
     turn_same q (Some s) (Some s') k = go (nat_le s t) refl (nat_le s' t) refl
       where
         go : (b : Bool) → nat_le s t ≡ b → (b' : Bool) → nat_le s' t ≡ b' → SameFate t (fate x h no_variable s body q) (fate x' h' no_variable s' body q)
         go true e b' e' =
-            let m : s ≤ t = grind (arith, nat_tests) in
-            let z = k.there s refl m in
-            let y : s ≡ s' = cc in
-            subst (λ w. SameFate t (fate x h no_variable s body q) (fate x' h' no_variable w body q)) y (fate_same t x x' h h' a no_variable no_variable s m (λ y. same_refl t (no_variable y)) body q)
+            let last_at_most : s ≤ t = grind (arith, nat_tests) in
+            let next_by_there = k.there s refl last_at_most in
+            let equal : s ≡ s' = cc in
+            subst (λ w. SameFate t (fate x h no_variable s body q) (fate x' h' no_variable w body q)) equal (fate_same t x x' h h' a no_variable no_variable s last_at_most (λ equal. same_refl t (no_variable equal)) body q)
         go false e true e' =
-            let m : s' ≤ t = grind (arith, nat_tests) in
-            let n : t < s = grind (arith, nat_tests) in
-            let z = k.back s' refl m in
-            let y : s ≡ s' = cc in absurd (omega arith)
+            let other_at_most : s' ≤ t = grind (arith, nat_tests) in
+            let is_less : t < s = grind (arith, nat_tests) in
+            let next_by_back = k.back s' refl other_at_most in
+            let next_equal : s ≡ s' = cc in absurd (omega arith)
         go false e false e' =
-            let m : t < s = grind (arith, nat_tests) in
-            let n : t < s' = grind (arith, nat_tests) in same_late (late_after x h s q m) (late_after x' h' s' q n)
+            let other_is_less : t < s = grind (arith, nat_tests) in
+            let more_is_less : t < s' = grind (arith, nat_tests) in same_late (late_after x h s q other_is_less) (late_after x' h' s' q more_is_less)
 
     pub run_same : (i q : ℕ) → SameFate t (run_of x h body i q) (run_of x' h' body i q)
     run_same i q = turn_same q (begins x h body i) (begins x' h' body i) (begins_same i)
@@ -136,11 +136,11 @@ module _ (t : ℕ) (h h' : ℕ → ℕ → ℕ) (same : (s r : ℕ) → s ≤ t 
   set_by_same r scope scope' s (Nothing p) l k = refl
 
   set_by_late : (g : ℕ → ℕ → ℕ) (r : ℕ) (scope : ℕ → Outcome) (s : ℕ) (a : Act) → t < s → set_by g r t scope s a ≡ None
-  set_by_late g r scope s (Set p q e) l = let z : (s == t) ≡ false = grind (arith, nat_tests) in go (q == r) z
+  set_by_late g r scope s (Set p q e) l = let decided : (s == t) ≡ false = grind (arith, nat_tests) in go (q == r) decided
     where
       go : (b : Bool) → (s == t) ≡ false → (if b && (s == t) then Some (value g scope s e).number else None) ≡ None
-      go true z = rw z refl
-      go false z = refl
+      go true decided = rw decided refl
+      go false decided = refl
   set_by_late g r scope s (Cycle p n) l = refl
   set_by_late g r scope s (Send p m e) l = refl
   set_by_late g r scope s (Recv p m) l = refl
@@ -157,22 +157,22 @@ module _ (t : ℕ) (h h' : ℕ → ℕ → ℕ) (same : (s r : ℕ) → s ≤ t 
   set_at_late g r (Runs scope s u) k = at (nat_le s t) refl
     where
       at : (b : Bool) → nat_le s t ≡ b → set_by g r t scope s (head u) ≡ None
-      at true e = let n : s ≤ t = grind (arith, nat_tests) in absurd (k scope s u refl n)
-      at false e = let n : t < s = grind (arith, nat_tests) in set_by_late g r scope s (head u) n
+      at true e = let at_most : s ≤ t = grind (arith, nat_tests) in absurd (k scope s u refl at_most)
+      at false e = let is_less : t < s = grind (arith, nat_tests) in set_by_late g r scope s (head u) is_less
 
   set_at_same : (r : ℕ) (f f' : Fate) → SameFate t f f' → set_at h r t f ≡ set_at h' r t f'
-  set_at_same r Waits f' k = sym (set_at_late h' r f' (λ scope s u e l. let z = k.back scope s u e l in absurd cc))
-  set_at_same r Lost f' k = sym (set_at_late h' r f' (λ scope s u e l. let z = k.back scope s u e l in absurd cc))
+  set_at_same r Waits f' k = sym (set_at_late h' r f' (λ scope s u e l. let by_back = k.back scope s u e l in absurd cc))
+  set_at_same r Lost f' k = sym (set_at_late h' r f' (λ scope s u e l. let next_by_back = k.back scope s u e l in absurd cc))
   set_at_same r (Runs scope s u) f' k = go (nat_le s t) refl
     where
       go : (b : Bool) → nat_le s t ≡ b → set_by h r t scope s (head u) ≡ set_at h' r t f'
       go true e =
-          let m : s ≤ t = grind (arith, nat_tests) in
-          let z = k.there scope s u refl m in
-          set_by_same r scope z.0 s (head u) m z.2 ∙ ap (set_at h' r t) (sym z.1)
+          let next_at_most : s ≤ t = grind (arith, nat_tests) in
+          let by_there = k.there scope s u refl next_at_most in
+          set_by_same r scope by_there.0 s (head u) next_at_most by_there.2 ∙ ap (set_at h' r t) (sym by_there.1)
       go false e =
-          let m : t < s = grind (arith, nat_tests) in
-          set_by_late h r scope s (head u) m ∙ sym (set_at_late h' r f' (λ scope' s' u' i l. let z = k.back scope' s' u' i l in let y : s ≡ s' = cc in absurd (omega arith)))
+          let next_is_less : t < s = grind (arith, nat_tests) in
+          set_by_late h r scope s (head u) next_is_less ∙ sym (set_at_late h' r f' (λ scope' s' u' i l. let last_by_back = k.back scope' s' u' i l in let equal : s ≡ s' = cc in absurd (omega arith)))
 
   module _ (x x' : Inputs) (both : Together t x x' h h') where
     written_same : (thread : Thread) (r : ℕ) → written x h thread r t ≡ written x' h' thread r t
@@ -185,8 +185,8 @@ module _ (t : ℕ) (h h' : ℕ → ℕ → ℕ) (same : (s r : ℕ) → s ≤ t 
 
 shorter : (n : ℕ) (x x' : Inputs) → SameRows (n + 1) x x' → SameRows n x x'
 shorter n x x' rows = record {
-  long = let l = rows.long in omega arith;
-  other_long = let l = rows.other_long in omega arith;
+  long = let by_long = rows.long in omega arith;
+  other_long = let by_other_long = rows.other_long in omega arith;
   valid = λ m u l. rows.valid m u (omega arith);
   data_at = λ m u l. rows.data_at m u (omega arith);
   ack = λ m u l. rows.ack m u (omega arith);
@@ -194,22 +194,22 @@ shorter n x x' rows = record {
 
 -- the registers are the same up to the cycle before which the rows are
 pub registers_same : (p : Process) (x x' : Inputs) (h h' : ℕ → ℕ → ℕ) → IsHistory p x h → IsHistory p x' h' → (n : ℕ) → SameRows n x x' → (t r : ℕ) → t ≤ n → h t r ≡ h' t r
-registers_same p x x' h h' k k' zero rows t r l = let z : t ≡ 0 = omega arith in rw z (k.reset r ∙ sym (k'.reset r))
+registers_same p x x' h h' k k' zero rows t r l = let next_equal : t ≡ 0 = omega arith in rw next_equal (k.reset r ∙ sym (k'.reset r))
 registers_same p x x' h h' k k' (suc n) rows t r l =
-    let e : suc n ≡ n + 1 = omega arith in
-    let rows' : SameRows (n + 1) x x' = subst (λ m. SameRows m x x') e rows in
+    let last_equal : suc n ≡ n + 1 = omega arith in
+    let rows' : SameRows (n + 1) x x' = subst (λ m. SameRows m x x') last_equal rows in
     one_more rows' (λ s q m. registers_same p x x' h h' k k' n (shorter n x x' rows') s q m)
   where
     one_more : SameRows (n + 1) x x' → ((s q : ℕ) → s ≤ n → h s q ≡ h' s q) → h t r ≡ h' t r
     one_more rows' before = go (nat_le t n) refl
       where
         go : (b : Bool) → nat_le t n ≡ b → h t r ≡ h' t r
-        go true e = let z : t ≤ n = grind (arith, nat_tests) in before t r z
+        go true e = let at_most : t ≤ n = grind (arith, nat_tests) in before t r at_most
         go false e =
-            let z : n < t = grind (arith, nat_tests) in
-            let y : t ≡ n + 1 = omega arith in
-            let w : n < x.count = let l = rows'.long in omega arith in
-            let w' : n < x'.count = let l = rows'.other_long in omega arith in
-            let a : written_by x h p.threads r n ≡ written_by x' h' p.threads r n = written_by_same n h h' before x x' (together n x x' h h' rows' before) p.threads r in
-            let b : h n r ≡ h' n r = before n r (omega arith) in
-            rw y (k.step n r w ∙ (rw (a, b) refl ∙ sym (k'.step n r w')))
+            let is_less : n < t = grind (arith, nat_tests) in
+            let equal : t ≡ n + 1 = omega arith in
+            let next_is_less : n < x.count = let next_by_long = rows'.long in omega arith in
+            let w' : n < x'.count = let next_by_other_long = rows'.other_long in omega arith in
+            let other_equal : written_by x h p.threads r n ≡ written_by x' h' p.threads r n = written_by_same n h h' before x x' (together n x x' h h' rows' before) p.threads r in
+            let more_equal : h n r ≡ h' n r = before n r (omega arith) in
+            rw equal (k.step n r next_is_less ∙ (rw (other_equal, more_equal) refl ∙ sym (k'.step n r w')))

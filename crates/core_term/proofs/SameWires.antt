@@ -48,7 +48,7 @@ pending_same t s Open (Done e v) k = go (nat_le t e) refl
         and_true : (b : Bool) → b ≡ (b && true)
         and_true true = refl
         and_true false = refl
-    go false f = let l : e ≤ t = grind (arith, nat_tests) in let c : Open ≡ Done e v = k.back e v l refl in absurd cc
+    go false f = let at_most : e ≤ t = grind (arith, nat_tests) in let equal : Open ≡ Done e v = k.back e v at_most refl in absurd cc
 pending_same t s (Done e v) Open k = go (nat_le t e) refl
   where
     go : (b : Bool) → nat_le t e ≡ b → (nat_le s t && nat_le t e) ≡ nat_le s t
@@ -57,20 +57,20 @@ pending_same t s (Done e v) Open k = go (nat_le t e) refl
         and_true : (b : Bool) → (b && true) ≡ b
         and_true true = refl
         and_true false = refl
-    go false f = let l : e ≤ t = grind (arith, nat_tests) in let c : Open ≡ Done e v = k.there e v l refl in absurd cc
+    go false f = let next_at_most : e ≤ t = grind (arith, nat_tests) in let next_equal : Open ≡ Done e v = k.there e v next_at_most refl in absurd cc
 pending_same t s (Done e v) (Done e' v') k = go (nat_le e t) refl (nat_le e' t) refl
   where
     go : (b : Bool) → nat_le e t ≡ b → (b' : Bool) → nat_le e' t ≡ b' → (nat_le s t && nat_le t e) ≡ (nat_le s t && nat_le t e')
-    go true f b' f' = let l : e ≤ t = grind (arith, nat_tests) in let c : Done e' v' ≡ Done e v = k.there e v l refl in let i : e' ≡ e = cc in rw i refl
-    go false f true f' = let l : e' ≤ t = grind (arith, nat_tests) in let c : Done e v ≡ Done e' v' = k.back e' v' l refl in let i : e ≡ e' = cc in rw i refl
+    go true f b' f' = let last_at_most : e ≤ t = grind (arith, nat_tests) in let last_equal : Done e' v' ≡ Done e v = k.there e v last_at_most refl in let other_equal : e' ≡ e = cc in rw other_equal refl
+    go false f true f' = let other_at_most : e' ≤ t = grind (arith, nat_tests) in let more_equal : Done e v ≡ Done e' v' = k.back e' v' other_at_most refl in let further_equal : e ≡ e' = cc in rw further_equal refl
     go false f false f' =
-        let i : nat_le t e ≡ true = grind (arith, nat_tests) in
+        let decided : nat_le t e ≡ true = grind (arith, nat_tests) in
         let i' : nat_le t e' ≡ true = grind (arith, nat_tests) in
-        rw (i, i') refl
+        rw (decided, i') refl
 
 not_pending : (t s : ℕ) (o : Outcome) → t < s → pending t s o ≡ false
 not_pending t s Open l = grind (arith, nat_tests)
-not_pending t s (Done e v) l = let z : nat_le s t ≡ false = grind (arith, nat_tests) in rw z refl
+not_pending t s (Done e v) l = let next_decided : nat_le s t ≡ false = grind (arith, nat_tests) in rw next_decided refl
 
 and_false : (b : Bool) → (b && false) ≡ false
 and_false true = refl
@@ -83,34 +83,34 @@ module _ (t : ℕ) (x x' : Inputs) (h h' : ℕ → ℕ → ℕ) (both : Together
   offered_late y g (Runs scope s u) k = go (nat_le s t) refl
     where
       go : (b : Bool) → nat_le s t ≡ b → offered_by y g m t (Runs scope s u) ≡ None
-      go true e = let n : s ≤ t = grind (arith, nat_tests) in absurd (k scope s u refl n)
+      go true e = let at_most : s ≤ t = grind (arith, nat_tests) in absurd (k scope s u refl at_most)
       go false e =
-          let n : t < s = grind (arith, nat_tests) in
-          rw (not_pending t s (act_ends y (sees g) scope s (head u)) n, and_false (on_port m (head u))) refl
+          let is_less : t < s = grind (arith, nat_tests) in
+          rw (not_pending t s (act_ends y (sees g) scope s (head u)) is_less, and_false (on_port m (head u))) refl
 
   none_both : (o o' : Option Offer) → o ≡ None → o' ≡ None → SameOffer t o o'
   none_both o o' e e' = rw (e, e') tt
 
   fate_offer : (f f' : Fate) → SameFate t f f' → SameOffer t (offered_by x h m t f) (offered_by x' h' m t f')
-  fate_offer Waits f' k = none_both None (offered_by x' h' m t f') refl (offered_late x' h' f' (λ scope s u e l. let z = k.back scope s u e l in absurd cc))
-  fate_offer Lost f' k = none_both None (offered_by x' h' m t f') refl (offered_late x' h' f' (λ scope s u e l. let z = k.back scope s u e l in absurd cc))
+  fate_offer Waits f' k = none_both None (offered_by x' h' m t f') refl (offered_late x' h' f' (λ scope s u e l. let by_back = k.back scope s u e l in absurd cc))
+  fate_offer Lost f' k = none_both None (offered_by x' h' m t f') refl (offered_late x' h' f' (λ scope s u e l. let next_by_back = k.back scope s u e l in absurd cc))
   fate_offer (Runs scope s u) f' k = go (nat_le s t) refl
     where
       go : (b : Bool) → nat_le s t ≡ b → SameOffer t (offered_by x h m t (Runs scope s u)) (offered_by x' h' m t f')
       go true e =
-          let l : s ≤ t = grind (arith, nat_tests) in
-          let z = k.there scope s u refl l in
-          rw (z.1, ← pending_same t s _ _ (act_same t x x' (sees h) (sees h') both.alike scope z.0 s l z.2 (head u)))
-          (at (on_port m (head u) && pending t s (act_ends x (sees h) scope s (head u))) z.0 z.2 l)
+          let next_at_most : s ≤ t = grind (arith, nat_tests) in
+          let by_there = k.there scope s u refl next_at_most in
+          rw (by_there.1, ← pending_same t s _ _ (act_same t x x' (sees h) (sees h') both.alike scope by_there.0 s next_at_most by_there.2 (head u)))
+          (at (on_port m (head u) && pending t s (act_ends x (sees h) scope s (head u))) by_there.0 by_there.2 next_at_most)
         where
           at : (b : Bool) (scope' : ℕ → Outcome) → SameScope t scope scope' → s ≤ t → SameOffer t (if b then Some (record { scope = scope; begin = s; act = head u }) else None) (if b then Some (record { scope = scope'; begin = s; act = head u }) else None)
           at true scope' j l = (j, refl, refl, l)
           at false scope' j l = tt
       go false e =
-          let n : t < s = grind (arith, nat_tests) in
+          let is_less : t < s = grind (arith, nat_tests) in
           none_both (offered_by x h m t (Runs scope s u)) (offered_by x' h' m t f')
-          (offered_late x h (Runs scope s u) (λ scope' s' u' i l. let y : s ≡ s' = cc in absurd (omega arith)))
-          (offered_late x' h' f' (λ scope' s' u' i l. let z = k.back scope' s' u' i l in let y : s ≡ s' = cc in absurd (omega arith)))
+          (offered_late x h (Runs scope s u) (λ scope' s' u' i l. let equal : s ≡ s' = cc in absurd (omega arith)))
+          (offered_late x' h' f' (λ scope' s' u' i l. let last_by_back = k.back scope' s' u' i l in let next_equal : s ≡ s' = cc in absurd (omega arith)))
 
   pub offer_same : (threads : List Thread) → SameOffer t (offered x h threads m t) (offered x' h' threads m t)
   offer_same [] = tt
@@ -159,8 +159,8 @@ latest_within e zero v k = absurd cc
 latest_within e (suc n) v k = go (e n) k (latest_within e n v)
   where
     go : (b : Bool) → or_else (if b then Some n else None) (greatest (λ u. if e u then Some u else None) n) ≡ Some v → (greatest (λ u. if e u then Some u else None) n ≡ Some v → v < n) → v < suc n
-    go true i j = let z : n ≡ v = cc in omega arith
-    go false i j = let l = j i in omega arith
+    go true i j = let equal : n ≡ v = cc in omega arith
+    go false i j = let part = j i in omega arith
 
 module _ (p : Process) (x x' : Inputs) (h h' : ℕ → ℕ → ℕ) (k : IsHistory p x h) (k' : IsHistory p x' h') (n : ℕ) (rows : SameRows n x x') where
   same : (t r : ℕ) → t ≤ n → h t r ≡ h' t r
@@ -168,8 +168,8 @@ module _ (p : Process) (x x' : Inputs) (h h' : ℕ → ℕ → ℕ) (k : IsHisto
 
   rows_to : (t : ℕ) → t < n → SameRows (t + 1) x x'
   rows_to t l = record {
-    long = let m = rows.long in omega arith;
-    other_long = let m = rows.other_long in omega arith;
+    long = let by_long = rows.long in omega arith;
+    other_long = let by_other_long = rows.other_long in omega arith;
     valid = λ m u i. rows.valid m u (omega arith);
     data_at = λ m u i. rows.data_at m u (omega arith);
     ack = λ m u i. rows.ack m u (omega arith);
@@ -199,7 +199,7 @@ module _ (p : Process) (x x' : Inputs) (h h' : ℕ → ℕ → ℕ) (k : IsHisto
   kept_same : (m t : ℕ) → t < n → (o : Option ℕ) → ((u : ℕ) → o ≡ Some u → u ≤ t) → kept p x h m t o ≡ kept p x' h' m t o
   kept_same m t l None i = refl
   kept_same m t l (Some u) i =
-      let j : u ≤ t = i u refl in
+      let at_most : u ≤ t = i u refl in
       rw (alive_same (exchange p x h) (exchange p x' h') (life_of p m) u t (λ q c a. exchange_same q c (omega arith)), offered_data m u (omega arith)) refl
 
   latest_same : (m t : ℕ) → t < n → latest (exchange p x h m) t ≡ latest (exchange p x' h' m) t
@@ -207,7 +207,7 @@ module _ (p : Process) (x x' : Inputs) (h h' : ℕ → ℕ → ℕ) (k : IsHisto
 
   shown_same : (m t : ℕ) → t < n → (o o' : Option Offer) → SameOffer t o o' → shown_data p x h m t o ≡ shown_data p x' h' m t o'
   shown_same m t l None None i =
-      kept_same m t l (latest (exchange p x h m) t) (λ u e. let j : u < t + 1 = latest_within (exchange p x h m) (t + 1) u e in omega arith) ∙ ap (kept p x' h' m t) (latest_same m t l)
+      kept_same m t l (latest (exchange p x h m) t) (λ u e. let is_less : u < t + 1 = latest_within (exchange p x h m) (t + 1) u e in omega arith) ∙ ap (kept p x' h' m t) (latest_same m t l)
   shown_same m t l (Some a) (Some b) i = data_same t h h' (λ u r j. same u r (omega arith)) (Some a) (Some b) i
   shown_same m t l None (Some b) i = absurd i
   shown_same m t l (Some a) None i = absurd i

@@ -48,14 +48,14 @@ same_rows (a ∷ ones) (b ∷ others) up up' there back = joined first (same_row
     rest_there atom i = go (there atom (inr i))
       where
         go : Has (b ∷ others) atom → Has others atom
-        go (inl e) = let y : ComesFirst a a = subst (ComesFirst a) (e ∙ sym first) (up.0 atom i) in absurd (not_itself a y)
+        go (inl e) = let the_comes_first : ComesFirst a a = subst (ComesFirst a) (e ∙ sym first) (up.0 atom i) in absurd (not_itself a the_comes_first)
         go (inr j) = j
 
     rest_back : (atom : SourceAtom) → Has others atom → Has ones atom
     rest_back atom i = go (back atom (inr i))
       where
         go : Has (a ∷ ones) atom → Has ones atom
-        go (inl e) = let y : ComesFirst b b = subst (ComesFirst b) (e ∙ first) (up'.0 atom i) in absurd (not_itself b y)
+        go (inl e) = let next_the_comes_first : ComesFirst b b = subst (ComesFirst b) (e ∙ first) (up'.0 atom i) in absurd (not_itself b next_the_comes_first)
         go (inr j) = j
 
     joined : a ≡ b → ones ≡ others → (a ∷ ones) ≡ (b ∷ others)
@@ -68,7 +68,7 @@ numbers_first : (k k' s s' r r' : ℕ) → (nat_lt k k' || ((k == k') && (nat_lt
 numbers_first k k' s s' r r' is = kinds (nat_lt k k') refl is
   where
     registers : (b : Bool) → nat_lt r r' ≡ b → b ≡ true → r < r'
-    registers b e f = let z : nat_lt r r' ≡ true = e ∙ f in grind (arith, nat_tests)
+    registers b e f = let decided : nat_lt r r' ≡ true = e ∙ f in grind (arith, nat_tests)
 
     equal_sites : (b : Bool) → (s == s') ≡ b → (b && nat_lt r r') ≡ true → (s ≡ s') × (r < r')
     equal_sites true e f = (grind (arith, nat_tests), registers (nat_lt r r') refl f)
@@ -94,17 +94,17 @@ first_is one other is =
 
 is_number_first : (k k' s s' r r' : ℕ) → (k < k') ⊎ ((k ≡ k') × ((s < s') ⊎ ((s ≡ s') × (r < r'))))
     → (nat_lt k k' || ((k == k') && (nat_lt s s' || ((s == s') && nat_lt r r')))) ≡ true
-is_number_first k k' s s' r r' (inl l) = let z : nat_lt k k' ≡ true = grind (arith, nat_tests) in rw z refl
+is_number_first k k' s s' r r' (inl l) = let decided : nat_lt k k' ≡ true = grind (arith, nat_tests) in rw decided refl
 is_number_first k k' s s' r r' (inr (e, inl l)) =
-    let a : nat_lt k k' ≡ false = grind (arith, nat_tests) in
-    let b : (k == k') ≡ true = grind (arith, nat_tests) in
-    let z : nat_lt s s' ≡ true = grind (arith, nat_tests) in rw (a, b, z) refl
+    let next_decided : nat_lt k k' ≡ false = grind (arith, nat_tests) in
+    let last_decided : (k == k') ≡ true = grind (arith, nat_tests) in
+    let other_decided : nat_lt s s' ≡ true = grind (arith, nat_tests) in rw (next_decided, last_decided, other_decided) refl
 is_number_first k k' s s' r r' (inr (e, inr (f, l))) =
-    let a : nat_lt k k' ≡ false = grind (arith, nat_tests) in
-    let b : (k == k') ≡ true = grind (arith, nat_tests) in
+    let more_decided : nat_lt k k' ≡ false = grind (arith, nat_tests) in
+    let further_decided : (k == k') ≡ true = grind (arith, nat_tests) in
     let c : nat_lt s s' ≡ false = grind (arith, nat_tests) in
     let d : (s == s') ≡ true = grind (arith, nat_tests) in
-    let z : nat_lt r r' ≡ true = grind (arith, nat_tests) in rw (a, b, c, d, z) refl
+    let z : nat_lt r r' ≡ true = grind (arith, nat_tests) in rw (more_decided, further_decided, c, d, z) refl
 
 compare : (m n : ℕ) → (m < n) ⊎ ((m ≡ n) ⊎ (n < m))
 compare m n = elim (cases_lt m n) [
@@ -128,7 +128,7 @@ neither_first : (one other : SourceAtom) → is_first one other ≡ false → is
 neither_first one other no_one no_other = go (compare (kind_number one) (kind_number other)) (compare (site_of one) (site_of other)) (compare (register_read one) (register_read other))
   where
     wrong : {A : Type 0} (b : Bool) → b ≡ true → b ≡ false → A
-    wrong b e f = let z : true ≡ false = sym e ∙ f in absurd cc
+    wrong b e f = let decided : true ≡ false = sym e ∙ f in absurd cc
 
     this : {A : Type 0} → ComesFirst one other → A
     this k = wrong (is_first one other) (is_number_first (kind_number one) (kind_number other) (site_of one) (site_of other) (register_read one) (register_read other) k) no_one

@@ -51,12 +51,12 @@ module _ (inputs : Inputs) (view : Sees) (run : ℕ → Fate) (top : Term) (star
     pub is : FoundIn (run q) q
 
   idle_found : (w : Fate) (q : ℕ) → Idle (begin_at w) → run q ≡ w → Found q
-  idle_found Waits q i k = let m : FoundIn (run q) q = rw k tt in record { is = m }
-  idle_found Lost q i k = let m : FoundIn (run q) q = rw k tt in record { is = m }
+  idle_found Waits q i k = let the_found_in : FoundIn (run q) q = rw k tt in record { is = the_found_in }
+  idle_found Lost q i k = let next_the_found_in : FoundIn (run q) q = rw k tt in record { is = next_the_found_in }
   idle_found (Runs variables s t) q i k = elim i [ ]
 
   found_here : (vs : List Act) (variables : ℕ → Outcome) (s : ℕ) (t : Term) (q : ℕ) → Sub vs variables s t q → Found q
-  found_here vs variables s t q u = let m : FoundIn (run q) q = rw (runs_here inputs view run vs q variables s t u.numbered u.agrees) (vs, u) in record { is = m }
+  found_here vs variables s t q u = let last_the_found_in : FoundIn (run q) q = rw (runs_here inputs view run vs q variables s t u.numbered u.agrees) (vs, u) in record { is = last_the_found_in }
 
   at_lo : {low q : ℕ} → low ≡ q → Found low → Found q
   at_lo e f = subst (λ z. Found z) e f
@@ -66,8 +66,8 @@ module _ (inputs : Inputs) (view : Sees) (run : ℕ → Fate) (top : Term) (star
   split vs low variables s t q n g in_scope in_text carried_on in_list l f = go (nat_lt low q) refl
     where
       go : (b : Bool) → nat_lt low q ≡ b → Found q
-      go true k = let m : low < q = grind (arith, nat_tests) in f m
-      go false k = let m : q ≤ low = grind (arith, nat_tests) in let m' : low ≡ q = omega arith in at_lo m' (found_here vs variables s t low (record { numbered = n; agrees = g; scope = in_scope; stands = in_text vs t here; known = carried_on; fits = in_list }))
+      go true k = let is_less : low < q = grind (arith, nat_tests) in f is_less
+      go false k = let at_most : q ≤ low = grind (arith, nat_tests) in let m' : low ≡ q = omega arith in at_lo m' (found_here vs variables s t low (record { numbered = n; agrees = g; scope = in_scope; stands = in_text vs t here; known = carried_on; fits = in_list }))
 
   abbrev Search : ℕ → ℕ → ℕ → Type 0
   Search q low high = low ≤ q → q < high → Found q
@@ -76,8 +76,8 @@ module _ (inputs : Inputs) (view : Sees) (run : ℕ → Fate) (top : Term) (star
   join q low mid high f g l m = go (nat_lt q mid) refl
     where
       go : (b : Bool) → nat_lt q mid ≡ b → Found q
-      go true k = let u : q < mid = grind (arith, nat_tests) in f l u
-      go false k = let u : mid ≤ q = grind (arith, nat_tests) in g u m
+      go true k = let next_is_less : q < mid = grind (arith, nat_tests) in f l next_is_less
+      go false k = let next_at_most : mid ≤ q = grind (arith, nat_tests) in g next_at_most m
 
   end_found : (vs : List Act) (low : ℕ) (variables : ℕ → Outcome) (s : ℕ) (a : Act) (t : Term) → site a ≡ low → head t ≡ a → run low ≡ Runs variables s t → occurrence inputs view run (End (site a)) ≡ of_outcome (act_ends inputs view variables s a)
   end_found vs low variables s a t l k e = rw l (ap (end_at inputs view) e ∙ ap (λ z. of_outcome (act_ends inputs view variables s z)) k)
@@ -86,8 +86,8 @@ module _ (inputs : Inputs) (view : Sees) (run : ℕ → Fate) (top : Term) (star
       → ((variables' : ℕ → Outcome) (s' : ℕ) → Agrees run (fate inputs view variables' s' t) (low + act_size a) (low + act_size a + size t) → Scope inputs view run (a ∷ vs) (low + act_size a) variables' → K (a ∷ vs) variables' → Fits s' → Search q (low + act_size a) (low + act_size a + size t))
       → Search q (low + act_size a) (low + act_size a + size t)
   then_more q vs low variables s a t n g in_scope carried_on in_list f =
-      let p : 0 < act_size a = act_size_positive a in
-      let m : site (head t) ≡ low + act_size a = head_site _ _ t n.1 in
+      let is_less : 0 < act_size a = act_size_positive a in
+      let equal : site (head t) ≡ low + act_size a = head_site _ _ t n.1 in
       go (act_ends inputs view variables s a) refl (λ q i j. g.each q (omega arith) (omega arith) ∙ pick_ge q (site (head t)) _ _ (omega arith))
       (end_found vs low variables s a (Then a t) (act_site vs low a n.0) refl (runs_here inputs view run vs low variables s (Then a t) n g))
     where
@@ -97,12 +97,12 @@ module _ (inputs : Inputs) (view : Sees) (run : ℕ → Fate) (top : Term) (star
       go (Done c v) r w e l k = done (nat_lt c inputs.count) refl
         where
           done : (b : Bool) → nat_lt c inputs.count ≡ b → Found q
-          done false u = idle_found Waits q idle_later (let z = w q l k in rw u at z)
+          done false u = idle_found Waits q idle_later (let part = w q l k in rw u at part)
           done true u =
-              let p : 0 < act_size a = act_size_positive a in
-              f (bind variables (site a) (Done c v)) c (record { each = λ q i j. let z = w q i j in rw u at z }) (scope_more inputs view run vs low (low + act_size a) variables a (Done c v) in_scope (act_site vs low a n.0) (omega arith) e)
+              let next_is_less : 0 < act_size a = act_size_positive a in
+              f (bind variables (site a) (Done c v)) c (record { each = λ q i j. let next_part = w q i j in rw u at next_part }) (scope_more inputs view run vs low (low + act_size a) variables a (Done c v) in_scope (act_site vs low a n.0) (omega arith) e)
               (carry vs low variables s a (Then a t) (Done c v) n.0 (then_inner inputs view run vs low variables s a t n g) refl (runs_here inputs view run vs low variables s (Then a t) n g) carried_on r)
-              (let z : s ≤ c = act_from inputs view variables s a c (ap of_outcome r) in let y : c < inputs.count = grind (arith, nat_tests) in let w : start ≤ s = in_list.0 in (omega arith, y)) l k
+              (let at_most : s ≤ c = act_from inputs view variables s a c (ap of_outcome r) in let is_less : c < inputs.count = grind (arith, nat_tests) in let next_at_most : start ≤ s = in_list.0 in (omega arith, is_less)) l k
 
   side_more : (q : ℕ) (b : Bool) (vs : List Act) (low : ℕ) (variables : ℕ → Outcome) (s : ℕ) (t : Term) → ((q : ℕ) → low ≤ q → q < low + size t → run q ≡ (if b then fate inputs view variables s t q else Lost)) → (Agrees run (fate inputs view variables s t) low (low + size t) → Search q low (low + size t)) → Search q low (low + size t)
   side_more q true vs low variables s t w f l m = f (record { each = w }) l m
@@ -123,7 +123,7 @@ module _ (inputs : Inputs) (view : Sees) (run : ℕ → Fate) (top : Term) (star
         (then_more q vs low variables s a t n g in_scope carried_on in_list (λ variables' s' g' in_scope' carried' in_list'. sub q (a ∷ vs) (low + act_size a) variables' s' t n.1 g' in_scope' (λ ws u z. in_text ws u (after_then z)) carried' in_list'))
         (omega arith) (omega arith))
     sub q vs low variables s (Both a t) n g in_scope in_text carried_on in_list l m =
-        let p : 0 < act_size a = act_size_positive a in
+        let is_less : 0 < act_size a = act_size_positive a in
         split vs low variables s (Both a t) q n g in_scope in_text carried_on in_list l (λ k.
         join q (low + 1) (low + act_size a) (low + act_size a + size t)
         (act_sub q vs low variables s a n.0 (both_inner inputs view run vs low variables s a t n g) in_scope (λ ws u z. in_text ws u (in_both z)) carried_on in_list)

@@ -57,8 +57,8 @@ module _ (inputs : Inputs) (view : Sees) (run : ℕ → Fate) where
   covers_append : (from_sources other_sources : List Source) (these those : List Atom) → Covers from_sources these → Covers other_sources those → Covers (from_sources ++ other_sources) (these ++ those)
   covers_append from_sources other_sources these those k l = record {
     each = λ a m. elim (has_either these those a m) [
-      | inl n ↦ let z = k.each a n in (z.0, has_left from_sources other_sources z.0 z.1, z.2)
-      | inr n ↦ let z = l.each a n in (z.0, has_right from_sources other_sources z.0 z.1, z.2)
+      | inl n ↦ let by_each = k.each a n in (by_each.0, has_left from_sources other_sources by_each.0 by_each.1, by_each.2)
+      | inr n ↦ let next_by_each = l.each a n in (next_by_each.0, has_right from_sources other_sources next_by_each.0 next_by_each.1, next_by_each.2)
     ];
   }
 
@@ -70,17 +70,17 @@ module _ (inputs : Inputs) (view : Sees) (run : ℕ → Fate) where
       go b (inr k) = elim k [ ]
 
   covers_left : (from_sources other_sources : List Source) (these : List Atom) → Covers from_sources these → Covers (from_sources ++ other_sources) these
-  covers_left from_sources other_sources these k = record { each = λ a n. let z = k.each a n in (z.0, has_left from_sources other_sources z.0 z.1, z.2) }
+  covers_left from_sources other_sources these k = record { each = λ a n. let last_by_each = k.each a n in (last_by_each.0, has_left from_sources other_sources last_by_each.0 last_by_each.1, last_by_each.2) }
 
   covers_right : (from_sources other_sources : List Source) (these : List Atom) → Covers other_sources these → Covers (from_sources ++ other_sources) these
-  covers_right from_sources other_sources these k = record { each = λ a n. let z = k.each a n in (z.0, has_right from_sources other_sources z.0 z.1, z.2) }
+  covers_right from_sources other_sources these k = record { each = λ a n. let other_by_each = k.each a n in (other_by_each.0, has_right from_sources other_sources other_by_each.0 other_by_each.1, other_by_each.2) }
 
   covers_more : (s : Source) (from_sources : List Source) (a : Atom) (these : List Atom) → Matches s a → Covers from_sources these → Covers (s ∷ from_sources) (a ∷ these)
   covers_more s from_sources a these m k = record { each = go }
     where
       go : (b : Atom) → Has (a ∷ these) b → (c : Source) × Has (s ∷ from_sources) c × Matches c b
       go b (inl e) = (s, inl refl, rw e m)
-      go b (inr n) = let z = k.each b n in (z.0, inr z.1, z.2)
+      go b (inr n) = let by_each = k.each b n in (by_each.0, inr by_each.1, by_each.2)
 
   -- the sources of a variable cover its value
   abbrev pub Known : (ℕ → List Source) → (ℕ → Outcome) → Type 0
@@ -119,39 +119,39 @@ module _ (inputs : Inputs) (view : Sees) (run : ℕ → Fate) where
         → (e : ℕ) (v : Value) → ends inputs view scope s t ≡ Done e v → Covers (sources known_sources t) v.atoms
     covers vs low known_sources scope s (One c) n r k e v q = act_covers vs low known_sources scope s c n (one_inner inputs view run vs low scope s c n r) (One c) refl (runs_here inputs view run vs low scope s (One c) n r) k e v q
     covers vs low known_sources scope s (Then c t) n r k e v q =
-        let z = chain_done inputs (act_ends inputs view scope s c) (λ d w. ends inputs view (bind scope (site c) (Done d w)) d t) e v q in
-        covers (c ∷ vs) (low + act_size c) (bind_sources known_sources (site c) (act_sources known_sources c)) (bind scope (site c) (Done z.0 z.1)) z.0 t n.1 (then_rest_is inputs view run vs low scope s c t n r z.0 z.1 z.2 z.3)
-        (known_bind known_sources scope (site c) (Done z.0 z.1) (act_sources known_sources c) k
-        (λ d w i. act_covers vs low known_sources scope s c n.0 (then_inner inputs view run vs low scope s c t n r) (Then c t) refl (runs_here inputs view run vs low scope s (Then c t) n r) k d w (z.2 ∙ i)))
-        e v z.4
+        let by_chain_done = chain_done inputs (act_ends inputs view scope s c) (λ d w. ends inputs view (bind scope (site c) (Done d w)) d t) e v q in
+        covers (c ∷ vs) (low + act_size c) (bind_sources known_sources (site c) (act_sources known_sources c)) (bind scope (site c) (Done by_chain_done.0 by_chain_done.1)) by_chain_done.0 t n.1 (then_rest_is inputs view run vs low scope s c t n r by_chain_done.0 by_chain_done.1 by_chain_done.2 by_chain_done.3)
+        (known_bind known_sources scope (site c) (Done by_chain_done.0 by_chain_done.1) (act_sources known_sources c) k
+        (λ d w i. act_covers vs low known_sources scope s c n.0 (then_inner inputs view run vs low scope s c t n r) (Then c t) refl (runs_here inputs view run vs low scope s (Then c t) n r) k d w (by_chain_done.2 ∙ i)))
+        e v by_chain_done.4
     covers vs low known_sources scope s (Both c t) n r k e v q =
-        let z = both_done (act_ends inputs view scope s c) (ends inputs view (bind scope (site c) (act_ends inputs view scope s c)) s t) e v q in
+        let by_both_done = both_done (act_ends inputs view scope s c) (ends inputs view (bind scope (site c) (act_ends inputs view scope s c)) s t) e v q in
         covers (c ∷ vs) (low + act_size c) (bind_sources known_sources (site c) (act_sources known_sources c)) (bind scope (site c) (act_ends inputs view scope s c)) s t n.1 (both_rest inputs view run vs low scope s c t n r)
         (known_bind known_sources scope (site c) (act_ends inputs view scope s c) (act_sources known_sources c) k
         (λ d w i. act_covers vs low known_sources scope s c n.0 (both_inner inputs view run vs low scope s c t n r) (Both c t) refl (runs_here inputs view run vs low scope s (Both c t) n r) k d w i))
-        z.0 v z.1
+        by_both_done.0 v by_both_done.1
 
     pub act_covers : (vs : List Act) (low : ℕ) (known_sources : ℕ → List Source) (scope : ℕ → Outcome) (s : ℕ) (c : Act) → NumberedAct vs low c → Agrees run (inside inputs view scope s c) (low + 1) (low + act_size c) → (u : Term) → head u ≡ c → run low ≡ Runs scope s u → Known known_sources scope
         → (e : ℕ) (v : Value) → act_ends inputs view scope s c ≡ Done e v → Covers (act_sources known_sources c) v.atoms
     act_covers vs low known_sources scope s (Recv p m) n r u i j k e v q =
-        let z = found_done (first (inputs.valid m) s (inputs.count - s)) (λ w. record { number = inputs.data_at m w; atoms = Wire m w ∷ [] }) e v q in
+        let by_found_done = found_done (first (inputs.valid m) s (inputs.count - s)) (λ w. record { number = inputs.data_at m w; atoms = Wire m w ∷ [] }) e v q in
         let at_end : occurrence inputs view run (End p) ≡ At e = rw n (ap (end_at inputs view) j ∙ (ap (λ c. of_outcome (act_ends inputs view scope s c)) i ∙ ap of_outcome q)) in
-        rw (ap (λ (v : Value). v.atoms) z) (covers_one (WireOf p) (Wire m e) (at_end, (scope, s, u, rw n j, i)))
+        rw (ap (λ (v : Value). v.atoms) by_found_done) (covers_one (WireOf p) (Wire m e) (at_end, (scope, s, u, rw n j, i)))
     act_covers vs low known_sources scope s (If p f t w true) n r u i j k e v q =
-        let z = decided_done p s (if view.decide p s scope f then ends inputs view scope s t else ends inputs view scope s w) e v q in
-        let b : occurrence inputs view run (Begin p) ≡ At s = rw n.0 (ap begin_at j) in
-        rw (ap (λ (v : Value). v.atoms) z.2) (covers_more (ChoiceOf p) (sources known_sources t ++ sources known_sources w) (Choice p s) z.0.atoms (refl, b, (scope, u, f, rw n.0 j, rw i refl))
-        (pick_covers (view.decide p s scope f) (ends inputs view scope s t) (ends inputs view scope s w) (sources known_sources t) (sources known_sources w) e z.0 z.1
-        (λ d. covers vs (low + 1) known_sources scope s t n.1 (record { each = λ q l m. if_yes_is inputs view run vs low scope s p f t w true n r q l m ∙ ap (λ c. if c then fate inputs view scope s t q else Lost) d }) k e z.0)
-        (λ d. covers vs (low + (1 + size t)) known_sources scope s w n.2 (record { each = λ q l m. if_no_is inputs view run vs low scope s p f t w true n r q l m ∙ ap (λ c. if c then Lost else fate inputs view scope s w q) d }) k e z.0)))
+        let by_decided_done = decided_done p s (if view.decide p s scope f then ends inputs view scope s t else ends inputs view scope s w) e v q in
+        let equal : occurrence inputs view run (Begin p) ≡ At s = rw n.0 (ap begin_at j) in
+        rw (ap (λ (v : Value). v.atoms) by_decided_done.2) (covers_more (ChoiceOf p) (sources known_sources t ++ sources known_sources w) (Choice p s) by_decided_done.0.atoms (refl, equal, (scope, u, f, rw n.0 j, rw i refl))
+        (pick_covers (view.decide p s scope f) (ends inputs view scope s t) (ends inputs view scope s w) (sources known_sources t) (sources known_sources w) e by_decided_done.0 by_decided_done.1
+        (λ d. covers vs (low + 1) known_sources scope s t n.1 (record { each = λ q l m. if_yes_is inputs view run vs low scope s p f t w true n r q l m ∙ ap (λ c. if c then fate inputs view scope s t q else Lost) d }) k e by_decided_done.0)
+        (λ d. covers vs (low + (1 + size t)) known_sources scope s w n.2 (record { each = λ q l m. if_no_is inputs view run vs low scope s p f t w true n r q l m ∙ ap (λ c. if c then Lost else fate inputs view scope s w q) d }) k e by_decided_done.0)))
     act_covers vs low known_sources scope s (If p f t w false) n r u i j k e v q = rw (ap (λ (v : Value). v.atoms) (unit_done p s _ e v q)) (covers_none [])
     act_covers vs low known_sources scope s (When p f t) n r u i j k e v q = rw (ap (λ (v : Value). v.atoms) (unit_done p s _ e v q)) (covers_none [])
     act_covers vs low known_sources scope s (Block p t) n r u i j k e v q = covers vs (low + 1) known_sources scope s t n.1 (block_in inputs view run low scope s p t r) k e v q
-    act_covers vs low known_sources scope s (Wait p y) n r u i j k e v q = let z = waited_done s (scope y) e v q in k y z.0 v z.1
+    act_covers vs low known_sources scope s (Wait p y) n r u i j k e v q = let by_waited_done = waited_done s (scope y) e v q in k y by_waited_done.0 v by_waited_done.1
     act_covers vs low known_sources scope s (Pure p f) n r u i j k e v q =
-        let z : value view.registers scope s f ≡ v = cc in
-        rw (← z) (expr_covers known_sources scope p s f (rw n.0 (ap begin_at j)) k)
-    act_covers vs low known_sources scope s (Cycle p m) n r u i j k e v q = let z : nothing ≡ v = cc in rw (← z) (covers_none [])
-    act_covers vs low known_sources scope s (Set p m f) n r u i j k e v q = let z : nothing ≡ v = cc in rw (← z) (covers_none [])
+        let next_equal : value view.registers scope s f ≡ v = cc in
+        rw (← next_equal) (expr_covers known_sources scope p s f (rw n.0 (ap begin_at j)) k)
+    act_covers vs low known_sources scope s (Cycle p m) n r u i j k e v q = let equal : nothing ≡ v = cc in rw (← equal) (covers_none [])
+    act_covers vs low known_sources scope s (Set p m f) n r u i j k e v q = let last_equal : nothing ≡ v = cc in rw (← last_equal) (covers_none [])
     act_covers vs low known_sources scope s (Send p m f) n r u i j k e v q = rw (found_done (first (inputs.ack m) s (inputs.count - s)) (λ w. nothing) e v q) (covers_none [])
-    act_covers vs low known_sources scope s (Nothing p) n r u i j k e v q = let z : nothing ≡ v = cc in rw (← z) (covers_none [])
+    act_covers vs low known_sources scope s (Nothing p) n r u i j k e v q = let other_equal : nothing ≡ v = cc in rw (← other_equal) (covers_none [])

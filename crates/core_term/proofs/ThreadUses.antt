@@ -56,9 +56,9 @@ module _ (p : Process) (process : IsProcess p) (inputs : Inputs) (registers : �
 
     pub made_row : (turn place : ℕ) (b : At turn place) (y : ℕ) → Reads (head b.term) y → (e : ℕ) × (v : Value) × IsMade inputs registers thread.body turn y e v × (e ≤ b.begin)
     made_row turn place b y k =
-        let z = made_there inputs (sees registers) thread.body numbered (λ vs u s y k. meets _ _ _ _ (demand.made vs u y s k)) turn place b.scope b.begin b.term (ran inputs registers thread.body numbered turn place b) y k in
-        let a = act_ended p process inputs registers j thread is turn y z.0 z.1 in
-        (z.0, a.1.0, (a.0, a.1.1), z.2)
+        let by_made_there = made_there inputs (sees registers) thread.body numbered (λ vs u s y k. meets _ _ _ _ (demand.made vs u y s k)) turn place b.scope b.begin b.term (ran inputs registers thread.body numbered turn place b) y k in
+        let by_act_ended = act_ended p process inputs registers j thread is turn y by_made_there.0 by_made_there.1 in
+        (by_made_there.0, by_act_ended.1.0, (by_act_ended.0, by_act_ended.1.1), by_made_there.2)
 
     -- the claim for the use that a makes of what the recv q received, against the act w of an ending port
     abbrev UntilClaim : Act → ℕ → ℕ → Type 0
@@ -87,45 +87,45 @@ module _ (p : Process) (process : IsProcess p) (inputs : Inputs) (registers : �
 
             within : (t < inputs.count) × (recv.begin ≤ t)
             within =
-                let y = end_found p process inputs registers j thread is turn q recv t k.0 in
-                let z = ended_ready inputs registers recv.scope recv.begin m t y.0 (head recv.term) (rw k.1.4 refl) y.1 in
-                (z.0, z.1)
+                let by_end_found = end_found p process inputs registers j thread is turn q recv t k.0 in
+                let by_ended_ready = ended_ready inputs registers recv.scope recv.begin m t by_end_found.0 (head recv.term) (rw k.1.4 refl) by_end_found.1 in
+                (by_ended_ready.0, by_ended_ready.1)
 
             each : (e : LifeEnd) → Has (life_of p m) e → LiesWithin (wires p inputs registers) t c e
             each (Cycles n) i = short (nat_lt (t + n) (inputs.count + 1)) refl
               where
                 short : (d : Bool) → nat_lt (t + n) (inputs.count + 1) ≡ d → c < t + n
                 short true f =
-                    let l : t + n < inputs.count + 1 = grind (arith, nat_tests) in
-                    let w = use_law p process inputs registers j thread is turn 0 place (pos 1 -ℤ pos n) t c false (End q) b (meets _ _ _ _ (demand.wire_within b.term q m n s is_recv i)) k.0 within.0 (omega (arith, ints)) in_cycle in
+                    let is_less : t + n < inputs.count + 1 = grind (arith, nat_tests) in
+                    let by_use_law = use_law p process inputs registers j thread is turn 0 place (pos 1 -ℤ pos n) t c false (End q) b (meets _ _ _ _ (demand.wire_within b.term q m n s is_recv i)) k.0 within.0 (omega (arith, ints)) in_cycle in
                     omega (arith, ints)
-                short false f = let l : inputs.count + 1 ≤ t + n = grind (arith, nat_tests) in let y = (in_use_from p process inputs registers j thread is turn place c b in_cycle).1 in omega arith
+                short false f = let at_most : inputs.count + 1 ≤ t + n = grind (arith, nat_tests) in let by_in_use_from = (in_use_from p process inputs registers j thread is turn place c b in_cycle).1 in omega arith
             each (Until n) i = λ d l l' exchange.
-                let o = own_end p process inputs registers j thread is q m n d on_recv (process.same_endpoint m n i) exchange in
-                let act = begun_act inputs registers thread.body numbered (λ a. OnPort a n) o.0 o.1 o.2 o.3 in
-                none d l l' o.0 o.1 o.2 o.3 o.4 (meets _ _ _ _ (demand.wire_until b.term q m n o.1 s is_recv i act)) (turns inputs (sees registers) thread.body numbered turn o.0)
+                let by_own_end = own_end p process inputs registers j thread is q m n d on_recv (process.same_endpoint m n i) exchange in
+                let act = begun_act inputs registers thread.body numbered (λ a. OnPort a n) by_own_end.0 by_own_end.1 by_own_end.2 by_own_end.3 in
+                none d l l' by_own_end.0 by_own_end.1 by_own_end.2 by_own_end.3 by_own_end.4 (meets _ _ _ _ (demand.wire_until b.term q m n by_own_end.1 s is_recv i act)) (turns inputs (sees registers) thread.body numbered turn by_own_end.0)
               where
                 none : (d : ℕ) → t ≤ d → d < c → (turn' w : ℕ) (a : At turn' w) → OnPort (head a.term) n → EndsIn a d → UntilClaim (head b.term) q w → Turns inputs (sees registers) thread.body numbered turn turn' → ⊥
                 none d l l' turn' w a on ended (inl f) z =
-                    let y = use_law p process inputs registers j thread is turn 0 place (pos 0) t c false (End q) b f k.0 within.0 (omega (arith, ints, within.0)) in_cycle in omega (arith, ints)
+                    let next_by_use_law = use_law p process inputs registers j thread is turn 0 place (pos 0) t c false (End q) b f k.0 within.0 (omega (arith, ints, within.0)) in_cycle in omega (arith, ints)
                 none d l l' turn' w a on ended (inr (f, g)) (next i z) =
-                    let e = ended_ready inputs registers a.scope a.begin n d ended.0 (head a.term) on ended.1 in
-                    let y = use_law p process inputs registers j thread is turn i place (pos 0) d c true (End w) b g (occurs_next p process inputs registers j thread is turn i turn' z (End w) d (at_end p process inputs registers j thread is turn' w a d ended)) e.0 (omega (arith, ints, e.0)) in_cycle in omega (arith, ints)
+                    let by_ended_ready = ended_ready inputs registers a.scope a.begin n d ended.0 (head a.term) on ended.1 in
+                    let by_use_law = use_law p process inputs registers j thread is turn i place (pos 0) d c true (End w) b g (occurs_next p process inputs registers j thread is turn i turn' z (End w) d (at_end p process inputs registers j thread is turn' w a d ended)) by_ended_ready.0 (omega (arith, ints, by_ended_ready.0)) in_cycle in omega (arith, ints)
                 none d l l' turn' w a on ended (inr (f, g)) (past i z) =
                     let s' = start p process inputs registers j thread is turn q recv in
-                    let P : ℕ → Type 0 = λ z. begins inputs (sees registers) thread.body z ≡ Some s'.0 in
-                    let y = earlier p process inputs registers j thread is turn' i w a s'.0 (subst P z s'.1) in
-                    let v = y.3 (talks (head a.term) n on) in
-                    let y' : Done d ended.0 ≡ Done y.0 y.1.0 = sym ended.1 ∙ y.1.1 in
-                    let y'' : d ≡ y.0 = cc in
+                    let Statement : ℕ → Type 0 = λ z. begins inputs (sees registers) thread.body z ≡ Some s'.0 in
+                    let by_earlier = earlier p process inputs registers j thread is turn' i w a s'.0 (subst Statement z s'.1) in
+                    let by_by_earlier = by_earlier.3 (talks (head a.term) n on) in
+                    let y' : Done d ended.0 ≡ Done by_earlier.0 by_earlier.1.0 = sym ended.1 ∙ by_earlier.1.1 in
+                    let y'' : d ≡ by_earlier.0 = cc in
                     omega (arith, s'.2, within.1)
                 none d l l' turn' w a on ended (inr (inl f, g)) (same z) =
-                    let e = stage_eq p process inputs registers j thread is turn turn' (sym z) (End w) d (at_end p process inputs registers j thread is turn' w a d ended) in
-                    let y = end_over p process inputs registers j thread is turn 0 w (pos 1) t d false (End q) e f k.0 (omega (arith, ints, within.0)) in omega (arith, ints)
+                    let by_stage_eq = stage_eq p process inputs registers j thread is turn turn' (sym z) (End w) d (at_end p process inputs registers j thread is turn' w a d ended) in
+                    let by_end_over = end_over p process inputs registers j thread is turn 0 w (pos 1) t d false (End q) by_stage_eq f k.0 (omega (arith, ints, within.0)) in omega (arith, ints)
                 none d l l' turn' w a on ended (inr (inr f, g)) (same z) =
-                    let e = stage_eq p process inputs registers j thread is turn turn' (sym z) (End w) d (at_end p process inputs registers j thread is turn' w a d ended) in
+                    let next_by_stage_eq = stage_eq p process inputs registers j thread is turn turn' (sym z) (End w) d (at_end p process inputs registers j thread is turn' w a d ended) in
                     let e' = ended_ready inputs registers a.scope a.begin n d ended.0 (head a.term) on ended.1 in
-                    let y = use_law p process inputs registers j thread is turn 0 place (pos 0) d c false (End w) b f e e'.0 (omega (arith, ints, e'.0)) in_cycle in omega (arith, ints)
+                    let by_use_law = use_law p process inputs registers j thread is turn 0 place (pos 0) d c false (End w) b f next_by_stage_eq e'.0 (omega (arith, ints, e'.0)) in_cycle in omega (arith, ints)
 
     -- the claim for the use that a makes of the register that was read at q, against the set w of it
     abbrev SetClaim : Act → ℕ → ℕ → Type 0
@@ -142,30 +142,30 @@ module _ (p : Process) (process : IsProcess p) (inputs : Inputs) (registers : �
         s = rests p process inputs registers j thread is turn place b e uses (Register r t) has
 
         t_short : t < inputs.count
-        t_short = let y = atom_by p process inputs registers j thread is turn place b e (Register r t) has in omega (arith, (start p process inputs registers j thread is turn place b).3)
+        t_short = let by_atom_by = atom_by p process inputs registers j thread is turn place b e (Register r t) has in omega (arith, (start p process inputs registers j thread is turn place b).3)
 
         a_short : a.begin < inputs.count
         a_short = (start p process inputs registers j thread is turn' w a).3
 
         none : (q : ℕ) → stage turn (Begin q) ≡ occurs.At t → SetClaim (head b.term) q w → Turns inputs (sees registers) thread.body numbered turn turn' → ⊥
         none q k (inl f) z =
-            let y = use_law p process inputs registers j thread is turn 0 place (pos 0) t c false (Begin q) b f k t_short (omega (arith, ints, t_short)) in_cycle in omega (arith, ints)
+            let by_use_law = use_law p process inputs registers j thread is turn 0 place (pos 0) t c false (Begin q) b f k t_short (omega (arith, ints, t_short)) in_cycle in omega (arith, ints)
         none q k (inr (f, g)) (next i z) =
-            let y = use_law p process inputs registers j thread is turn i place (pos 0) a.begin c true (Begin w) b g (occurs_next p process inputs registers j thread is turn i turn' z (Begin w) a.begin (at_begin p process inputs registers j thread is turn' w a)) a_short (omega (arith, ints, a_short)) in_cycle in omega (arith, ints)
+            let next_by_use_law = use_law p process inputs registers j thread is turn i place (pos 0) a.begin c true (Begin w) b g (occurs_next p process inputs registers j thread is turn i turn' z (Begin w) a.begin (at_begin p process inputs registers j thread is turn' w a)) a_short (omega (arith, ints, a_short)) in_cycle in omega (arith, ints)
         none q k (inr (f, g)) (past i z) =
-            let o = some_start inputs (sees registers) thread.body numbered (begins inputs (sees registers) thread.body turn) place b.scope b.begin b.term b.runs in
-            let P : ℕ → Type 0 = λ z. begins inputs (sees registers) thread.body z ≡ Some o.0 in
-            let y = earlier p process inputs registers j thread is turn' i w a o.0 (subst P z o.1) in
-            let y' : occurs.At (a.begin + 1) ≡ occurs.At y.0 = sym (set_ends turn' w r a sets) ∙ at_end p process inputs registers j thread is turn' w a y.0 y.1 in
-            let y'' : a.begin + 1 ≡ y.0 = cc in
-            let v = begin_since inputs (sees registers) thread.body numbered (begins inputs (sees registers) thread.body turn) o.0 q t o.1 k in
-            omega (arith, y.2)
+            let by_some_start = some_start inputs (sees registers) thread.body numbered (begins inputs (sees registers) thread.body turn) place b.scope b.begin b.term b.runs in
+            let Statement : ℕ → Type 0 = λ z. begins inputs (sees registers) thread.body z ≡ Some by_some_start.0 in
+            let by_earlier = earlier p process inputs registers j thread is turn' i w a by_some_start.0 (subst Statement z by_some_start.1) in
+            let y' : occurs.At (a.begin + 1) ≡ occurs.At by_earlier.0 = sym (set_ends turn' w r a sets) ∙ at_end p process inputs registers j thread is turn' w a by_earlier.0 by_earlier.1 in
+            let y'' : a.begin + 1 ≡ by_earlier.0 = cc in
+            let by_begin_since = begin_since inputs (sees registers) thread.body numbered (begins inputs (sees registers) thread.body turn) by_some_start.0 q t by_some_start.1 k in
+            omega (arith, by_earlier.2)
         none q k (inr (inl f, g)) (same z) =
             let y' = stage_eq p process inputs registers j thread is turn turn' (sym z) (End w) (a.begin + 1) (set_ends turn' w r a sets) in
-            let y = end_over p process inputs registers j thread is turn 0 w (pos 0) t (a.begin + 1) false (Begin q) y' f k (omega (arith, ints, t_short)) in omega (arith, ints)
+            let by_end_over = end_over p process inputs registers j thread is turn 0 w (pos 0) t (a.begin + 1) false (Begin q) y' f k (omega (arith, ints, t_short)) in omega (arith, ints)
         none q k (inr (inr f, g)) (same z) =
             let y' = stage_eq p process inputs registers j thread is turn turn' (sym z) (Begin w) a.begin (at_begin p process inputs registers j thread is turn' w a) in
-            let y = use_law p process inputs registers j thread is turn 0 place (pos 0) a.begin c false (Begin w) b f y' a_short (omega (arith, ints, a_short)) in_cycle in omega (arith, ints)
+            let by_use_law = use_law p process inputs registers j thread is turn 0 place (pos 0) a.begin c false (Begin w) b f y' a_short (omega (arith, ints, a_short)) in_cycle in omega (arith, ints)
 
         go : (a : Source) → RestsOn thread.body b.term a → Matches inputs (sees registers) (run_of inputs (sees registers) thread.body turn) a (Register r t) → ⊥
         go (WireOf q) i k = elim k [ ]
@@ -182,14 +182,14 @@ module _ (p : Process) (process : IsProcess p) (inputs : Inputs) (registers : �
         s = rests p process inputs registers j thread is turn place b e uses (Register r t) has
 
         t_short : t < inputs.count
-        t_short = let y = atom_by p process inputs registers j thread is turn place b e (Register r t) has in omega (arith, (start p process inputs registers j thread is turn place b).3)
+        t_short = let by_atom_by = atom_by p process inputs registers j thread is turn place b e (Register r t) has in omega (arith, (start p process inputs registers j thread is turn place b).3)
 
         go : (a : Source) → RestsOn thread.body b.term a → Matches inputs (sees registers) (run_of inputs (sees registers) thread.body turn) a (Register r t) → c ≤ t
         go (WireOf q) i' k = elim k [ ]
         go (ChoiceOf q) i' k = elim k [ ]
         go (RegOf q r') i' k =
             let i'' : RestsOn thread.body b.term (RegOf q r) = rw k.0 i' in
-            let y = use_law p process inputs registers j thread is turn 0 place (pos 0) t c false (Begin q) b (meets _ _ _ _ (demand.set_elsewhere b.term q r i w other i'' is' different sets)) k.1 t_short (omega (arith, ints, t_short)) in_cycle in
+            let by_use_law = use_law p process inputs registers j thread is turn 0 place (pos 0) t c false (Begin q) b (meets _ _ _ _ (demand.set_elsewhere b.term q r i w other i'' is' different sets)) k.1 t_short (omega (arith, ints, t_short)) in_cycle in
             omega (arith, ints)
 
     -- sides
@@ -204,14 +204,14 @@ module _ (p : Process) (process : IsProcess p) (inputs : Inputs) (registers : �
 
         none : stage turn (Begin q) ≡ occurs.At t → Holds p thread.body (use_by (head b.term) (pos 1) (demand.next_begin_of q)) → Turns inputs (sees registers) thread.body numbered turn turn' → ⊥
         none k f (next i z) =
-            let y = use_law p process inputs registers j thread is turn i place (pos 1) a.begin c true (Begin q) b f (occurs_next p process inputs registers j thread is turn i turn' z (Begin q) a.begin (at_begin p process inputs registers j thread is turn' q a)) a_short (omega (arith, ints, a_short)) in_cycle in omega (arith, ints)
+            let next_by_use_law = use_law p process inputs registers j thread is turn i place (pos 1) a.begin c true (Begin q) b f (occurs_next p process inputs registers j thread is turn i turn' z (Begin q) a.begin (at_begin p process inputs registers j thread is turn' q a)) a_short (omega (arith, ints, a_short)) in_cycle in omega (arith, ints)
         none k f (past i z) =
-            let o = some_start inputs (sees registers) thread.body numbered (begins inputs (sees registers) thread.body turn) place b.scope b.begin b.term b.runs in
-            let P : ℕ → Type 0 = λ z. begins inputs (sees registers) thread.body z ≡ Some o.0 in
-            let y = earlier p process inputs registers j thread is turn' i q a o.0 (subst P z o.1) in
-            let y' = act_from inputs (sees registers) a.scope a.begin (head a.term) y.0 (ap of_outcome y.1.1) in
-            let v = begin_since inputs (sees registers) thread.body numbered (begins inputs (sees registers) thread.body turn) o.0 q t o.1 k in
-            omega (arith, y.2)
+            let by_some_start = some_start inputs (sees registers) thread.body numbered (begins inputs (sees registers) thread.body turn) place b.scope b.begin b.term b.runs in
+            let Statement : ℕ → Type 0 = λ z. begins inputs (sees registers) thread.body z ≡ Some by_some_start.0 in
+            let by_earlier = earlier p process inputs registers j thread is turn' i q a by_some_start.0 (subst Statement z by_some_start.1) in
+            let y' = act_from inputs (sees registers) a.scope a.begin (head a.term) by_earlier.0 (ap of_outcome by_earlier.1.1) in
+            let by_begin_since = begin_since inputs (sees registers) thread.body numbered (begins inputs (sees registers) thread.body turn) by_some_start.0 q t by_some_start.1 k in
+            omega (arith, by_earlier.2)
         none k f (same z) =
             let y' : occurs.At t ≡ occurs.At a.begin = sym k ∙ stage_eq p process inputs registers j thread is turn turn' (sym z) (Begin q) a.begin (at_begin p process inputs registers j thread is turn' q a) in
             let y'' : t ≡ a.begin = cc in omega arith

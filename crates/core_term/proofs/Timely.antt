@@ -44,14 +44,14 @@ more_up e b these l m a (inl k) = rw k l
 more_up e b these l m a (inr k) = m a k
 
 nothing_up : (e : ℕ) (v : Value) → nothing ≡ v → UpTo e v.atoms
-nothing_up e v k = let P : Value → Type 0 = λ w. UpTo e w.atoms in subst P k (none_up e)
+nothing_up e v k = let Statement : Value → Type 0 = λ w. UpTo e w.atoms in subst Statement k (none_up e)
 
 read_up : (o : Outcome) (s : ℕ) → TimelyOutcome o → UpTo s (read o s).atoms
 read_up Open s k = none_up s
 read_up (Done e v) s k = go (nat_le e s) refl
   where
     go : (b : Bool) → nat_le e s ≡ b → UpTo s (if b then v else nothing).atoms
-    go true f = let l : e ≤ s = grind (arith, nat_tests) in λ a m. let z = k e v refl a m in omega arith
+    go true f = let at_most : e ≤ s = grind (arith, nat_tests) in λ a m. let part = k e v refl a m in omega arith
     go false f = none_up s
 
 pub value_up : (registers : ℕ → ℕ → ℕ) (scope : ℕ → Outcome) (s : ℕ) → Timely scope → (e : Expr) → UpTo s (value registers scope s e).atoms
@@ -73,15 +73,15 @@ timely_bind scope p o k l y = go (y == p)
 later_timely : (o u : Outcome) → TimelyOutcome u → TimelyOutcome (later o u)
 later_timely Open u k e v q = absurd cc
 later_timely (Done a b) Open k e v q = absurd cc
-later_timely (Done a b) (Done c d) k e v q = let z : d ≡ v = cc in let w : max a c ≡ e = cc in let P : Value → Type 0 = λ y. UpTo e y.atoms in subst P z (λ at m. let y = k c d refl at m in omega arith)
+later_timely (Done a b) (Done c d) k e v q = let equal : d ≡ v = cc in let next_equal : max a c ≡ e = cc in let Statement : Value → Type 0 = λ y. UpTo e y.atoms in subst Statement equal (λ at m. let next_part = k c d refl at m in omega arith)
 
 waited_timely : (s : ℕ) (o : Outcome) → TimelyOutcome o → TimelyOutcome (waited s o)
 waited_timely s Open k e v q = absurd cc
-waited_timely s (Done c d) k e v q = let z : d ≡ v = cc in let w : max s c ≡ e = cc in let P : Value → Type 0 = λ y. UpTo e y.atoms in subst P z (λ at m. let y = k c d refl at m in omega arith)
+waited_timely s (Done c d) k e v q = let last_equal : d ≡ v = cc in let other_equal : max s c ≡ e = cc in let next_Statement : Value → Type 0 = λ y. UpTo e y.atoms in subst next_Statement last_equal (λ at m. let part = k c d refl at m in omega arith)
 
 module _ (inputs : Inputs) (view : Sees) where
   chain_timely : (o : Outcome) (k : ℕ → Value → Outcome) → ((c : ℕ) (w : Value) → o ≡ Done c w → TimelyOutcome (k c w)) → TimelyOutcome (after_end inputs o k)
-  chain_timely o k f e v q = let z = chain_done inputs o k e v q in f z.0 z.1 z.2 e v z.4
+  chain_timely o k f e v q = let by_chain_done = chain_done inputs o k e v q in f by_chain_done.0 by_chain_done.1 by_chain_done.2 e v by_chain_done.4
 
   pick_timely : (b : Bool) (o u : Outcome) → TimelyOutcome o → TimelyOutcome u → TimelyOutcome (if b then o else u)
   pick_timely true o u k l = k
@@ -89,10 +89,10 @@ module _ (inputs : Inputs) (view : Sees) where
 
   decided_timely : (p s : ℕ) (o : Outcome) → TimelyOutcome o → ((e : ℕ) → of_outcome o ≡ At e → s ≤ e) → TimelyOutcome (decided true p s o)
   decided_timely p s o k l e v q =
-      let z = decided_done p s o e v q in
-      let m : s ≤ e = l e (ap of_outcome z.1) in
-      let P : Value → Type 0 = λ y. UpTo e y.atoms in
-      subst P (sym z.2) (more_up e (Choice p s) z.0.atoms m (k e z.0 z.1))
+      let by_decided_done = decided_done p s o e v q in
+      let at_most : s ≤ e = l e (ap of_outcome by_decided_done.1) in
+      let last_Statement : Value → Type 0 = λ y. UpTo e y.atoms in
+      subst last_Statement (sym by_decided_done.2) (more_up e (Choice p s) by_decided_done.0.atoms at_most (k e by_decided_done.0 by_decided_done.1))
 
   pick_from : (b : Bool) (s : ℕ) (o u : Outcome) → ((e : ℕ) → of_outcome o ≡ At e → s ≤ e) → ((e : ℕ) → of_outcome u ≡ At e → s ≤ e) → (e : ℕ) → of_outcome (if b then o else u) ≡ At e → s ≤ e
   pick_from true s o u k l = k
@@ -108,9 +108,9 @@ module _ (inputs : Inputs) (view : Sees) where
 
     pub act_timely : (scope : ℕ → Outcome) (s : ℕ) (a : Act) → Timely scope → TimelyOutcome (act_ends inputs view scope s a)
     act_timely scope s (Recv p m) k e v q =
-        let z = found_done (first (inputs.valid m) s (inputs.count - s)) (λ u. record { number = inputs.data_at m u; atoms = Wire m u ∷ [] }) e v q in
-        let P : Value → Type 0 = λ y. UpTo e y.atoms in
-        subst P (sym z) (one_up e (Wire m e) (omega arith))
+        let by_found_done = found_done (first (inputs.valid m) s (inputs.count - s)) (λ u. record { number = inputs.data_at m u; atoms = Wire m u ∷ [] }) e v q in
+        let Statement : Value → Type 0 = λ y. UpTo e y.atoms in
+        subst Statement (sym by_found_done) (one_up e (Wire m e) (omega arith))
     act_timely scope s (If p f t u true) k e v q =
         decided_timely p s (if view.decide p s scope f then ends inputs view scope s t else ends inputs view scope s u)
         (pick_timely (view.decide p s scope f) _ _ (timely scope s t k) (timely scope s u k)) (pick_from (view.decide p s scope f) s _ _ (from inputs view scope s t) (from inputs view scope s u)) e v q
@@ -118,7 +118,7 @@ module _ (inputs : Inputs) (view : Sees) where
     act_timely scope s (When p f t) k e v q = nothing_up e v (sym (unit_done p s _ e v q))
     act_timely scope s (Block p t) k e v q = timely scope s t k e v q
     act_timely scope s (Wait p y) k e v q = waited_timely s (scope y) (k y) e v q
-    act_timely scope s (Pure p f) k e v q = let z : value view.registers scope s f ≡ v = cc in let w : s ≡ e = cc in let P : Value → Type 0 = λ y. UpTo e y.atoms in subst P z (λ a m. let y = value_up view.registers scope s k f a m in omega arith)
+    act_timely scope s (Pure p f) k e v q = let equal : value view.registers scope s f ≡ v = cc in let next_equal : s ≡ e = cc in let next_Statement : Value → Type 0 = λ y. UpTo e y.atoms in subst next_Statement equal (λ a m. let by_value_up = value_up view.registers scope s k f a m in omega arith)
     act_timely scope s (Cycle p n) k e v q = nothing_up e v cc
     act_timely scope s (Set p r f) k e v q = nothing_up e v cc
     act_timely scope s (Send p m f) k e v q = nothing_up e v (sym (found_done (first (inputs.ack m) s (inputs.count - s)) (λ u. nothing) e v q))

@@ -29,23 +29,23 @@ use Rattle.core_term.proofs.Decide.{within}
 -- the first 1 of a wire is what a walk finds
 first_is : (wire : ℕ → Bool) (start n t : ℕ) (v : ℕ → Value) (w : Value) → found (first wire start n) v ≡ Done t w → IsFirst wire (start + n) start t
 first_is wire start n t v w e =
-    let z = found_is wire start n v t w e in
+    let by_found_is = found_is wire start n v t w e in
     record {
-      within = z.1;
-      from = z.2;
-      is = z.0;
+      within = by_found_is.1;
+      from = by_found_is.2;
+      is = by_found_is.0;
       none = λ u l m k.
-          let y = first_by wire start n u l (omega (arith, z.1)) k in
-          let same : Done y.0 (v y.0) ≡ Done t w = sym (ap (λ r. found r v) y.2) ∙ e in
-          let i : y.0 ≡ t = cc in
-          omega (arith, y.1);
+          let by_first_by = first_by wire start n u l (omega (arith, by_found_is.1)) k in
+          let same : Done by_first_by.0 (v by_first_by.0) ≡ Done t w = sym (ap (λ r. found r v) by_first_by.2) ∙ e in
+          let equal : by_first_by.0 ≡ t = cc in
+          omega (arith, by_first_by.1);
     }
 
 is_first : (wire : ℕ → Bool) (start n t : ℕ) (v : ℕ → Value) → IsFirst wire (start + n) start t → found (first wire start n) v ≡ Done t (v t)
 is_first wire start n t v k = found_by wire start n v t k.from k.within k.is (record { begun = k.from; not_ended = λ e w q. not_before e w q (nat_lt e t) refl })
   where
     not_before : (e : ℕ) (w : Value) → found (first wire start n) v ≡ Done e w → (b : Bool) → nat_lt e t ≡ b → t ≤ e
-    not_before e w q true f = let l : e < t = grind (arith, nat_tests) in let z = found_is wire start n v e w q in absurd (k.none e z.2 l z.0)
+    not_before e w q true f = let is_less : e < t = grind (arith, nat_tests) in let next_by_found_is = found_is wire start n v e w q in absurd (k.none e next_by_found_is.2 is_less next_by_found_is.0)
     not_before e w q false f = grind (arith, nat_tests)
 
 module _ (inputs : Inputs) (view : Sees) (body : Term) (numbered : Numbered [] 0 body) (i : ℕ) where
@@ -60,15 +60,15 @@ module _ (inputs : Inputs) (view : Sees) (body : Term) (numbered : Numbered [] 0
 
   stands : (q : ℕ) (scope : ℕ → Outcome) (start : ℕ) (u : Term) → run q ≡ Runs scope start u → (vs : List Act) × Stands [] body vs u × (site (head u) ≡ q)
   stands q scope start u runs =
-      let r = here q scope start u runs in
-      let g = place inputs view body numbered i q scope start u r in
-      (g.1, g.3.stands, site_is inputs view body numbered i q scope start u r)
+      let by_here = here q scope start u runs in
+      let by_place = place inputs view body numbered i q scope start u by_here in
+      (by_place.1, by_place.3.stands, site_is inputs view body numbered i q scope start u by_here)
 
   -- the list goes on from the begin of an act
   short : (q : ℕ) (scope : ℕ → Outcome) (start : ℕ) (u : Term) → run q ≡ Runs scope start u → start + (inputs.count - start) ≡ inputs.count
   short q scope start u runs =
-      let g = place inputs view body numbered i q scope start u (here q scope start u runs) in
-      let l : start < inputs.count = g.3.fits.1 in omega arith
+      let next_by_place = place inputs view body numbered i q scope start u (here q scope start u runs) in
+      let next_is_less : start < inputs.count = next_by_place.3.fits.1 in omega arith
 
   sync_up : (q : ℕ) (scope : ℕ → Outcome) (start : ℕ) (u : Term) (m t : ℕ) → run q ≡ Runs scope start u → OnPort (head u) m → times inputs view body i (End q) ≡ At t → IsFirst (answer inputs (head u)) inputs.count start t
   sync_up q scope start u m t runs on e = go (head u) refl on (sym (ap (end_at inputs view) runs) ∙ e)
@@ -77,8 +77,8 @@ module _ (inputs : Inputs) (view : Sees) (body : Term) (numbered : Numbered [] 0
       sized wire k = subst (λ c. IsFirst wire c start t) (short q scope start u runs) k
 
       go : (a : Act) → head u ≡ a → OnPort a m → end_at inputs view (Runs scope start u) ≡ At t → IsFirst (answer inputs a) inputs.count start t
-      go (Send p n f) k on e = sized (inputs.ack n) (let z = done_from inputs view body numbered _ t (rw k at e) in first_is (inputs.ack n) start (inputs.count - start) t _ z.0 z.1)
-      go (Recv p n) k on e = sized (inputs.valid n) (let z = done_from inputs view body numbered _ t (rw k at e) in first_is (inputs.valid n) start (inputs.count - start) t _ z.0 z.1)
+      go (Send p n f) k on e = sized (inputs.ack n) (let by_done_from = done_from inputs view body numbered _ t (rw k at e) in first_is (inputs.ack n) start (inputs.count - start) t _ by_done_from.0 by_done_from.1)
+      go (Recv p n) k on e = sized (inputs.valid n) (let next_by_done_from = done_from inputs view body numbered _ t (rw k at e) in first_is (inputs.valid n) start (inputs.count - start) t _ next_by_done_from.0 next_by_done_from.1)
       go (Cycle p n) k on e = elim on [ ]
       go (Set p r f) k on e = elim on [ ]
       go (If p f v w d) k on e = elim on [ ]
@@ -117,14 +117,14 @@ module _ (inputs : Inputs) (view : Sees) (body : Term) (numbered : Numbered [] 0
     where
       at_first : {b : Bool} → view.decide p start scope e ≡ b → run (site (head t)) ≡ (if b then fate inputs view scope start t (site (head t)) else Lost)
       at_first {b = b} k =
-          let l : 0 < size t = size_positive t in
-          let s : site (head t) ≡ low + 1 = head_site vs (low + 1) t n.1 in
+          let is_less : 0 < size t = size_positive t in
+          let equal : site (head t) ≡ low + 1 = head_site vs (low + 1) t n.1 in
           if_yes_is inputs view run vs low scope start p e t u w n g (site (head t)) (omega arith) (omega arith) ∙ ap (λ c. if c then fate inputs view scope start t (site (head t)) else Lost) k
 
       at_second : {b : Bool} → view.decide p start scope e ≡ b → run (site (head u)) ≡ (if b then Lost else fate inputs view scope start u (site (head u)))
       at_second {b = b} k =
-          let l : 0 < size u = size_positive u in
-          let s : site (head u) ≡ low + (1 + size t) = head_site vs (low + (1 + size t)) u n.2 in
+          let next_is_less : 0 < size u = size_positive u in
+          let next_equal : site (head u) ≡ low + (1 + size t) = head_site vs (low + (1 + size t)) u n.2 in
           if_no_is inputs view run vs low scope start p e t u w n g (site (head u)) (omega arith) (omega arith) ∙ ap (λ c. if c then Lost else fate inputs view scope start u (site (head u))) k
 
       go : (b : Bool) → run (site (head t)) ≡ (if b then fate inputs view scope start t (site (head t)) else Lost) → run (site (head u)) ≡ (if b then Lost else fate inputs view scope start u (site (head u))) → Takes (times inputs view body i) start b (If p e t u w)
@@ -137,14 +137,14 @@ module _ (inputs : Inputs) (view : Sees) (body : Term) (numbered : Numbered [] 0
     where
       at_first : {b : Bool} → view.decide p start scope e ≡ b → run (site (head t)) ≡ (if b then fate inputs view scope start t (site (head t)) else Lost)
       at_first k =
-          let l : 0 < size t = size_positive t in
-          let s : site (head t) ≡ low + 1 = head_site vs (low + 1) t n.1 in
+          let is_less : 0 < size t = size_positive t in
+          let equal : site (head t) ≡ low + 1 = head_site vs (low + 1) t n.1 in
           g.each (site (head t)) (omega arith) (omega arith) ∙ ap (λ c. if c then fate inputs view scope start t (site (head t)) else Lost) k
 
       at_missing : {b : Bool} → view.decide p start scope e ≡ b → times inputs view body i (NoSide p) ≡ (if b then Gone else At start)
       at_missing k =
-          let r : run p ≡ Runs scope start rest = ap run n.0 ∙ runs in
-          ap (no_side_at view) r ∙ (ap (no_side view scope start) is ∙ ap (λ c. if c then Gone else At start) k)
+          let next_equal : run p ≡ Runs scope start rest = ap run n.0 ∙ runs in
+          ap (no_side_at view) next_equal ∙ (ap (no_side view scope start) is ∙ ap (λ c. if c then Gone else At start) k)
 
       go : (b : Bool) → run (site (head t)) ≡ (if b then fate inputs view scope start t (site (head t)) else Lost) → times inputs view body i (NoSide p) ≡ (if b then Gone else At start) → Takes (times inputs view body i) start b (When p e t)
       go true k l = (begins_there vs scope start (low + 1) t n.1 k, l)
@@ -158,16 +158,16 @@ module _ (inputs : Inputs) (view : Sees) (body : Term) (numbered : Numbered [] 0
 
   side : (q : ℕ) (scope : ℕ → Outcome) (start : ℕ) (u : Term) (e : Expr) → run q ≡ Runs scope start u → Asks (head u) e → Takes (times inputs view body i) start (view.decide q start scope e) (head u)
   side q scope start u e runs asks =
-      let g = place inputs view body numbered i q scope start u (here q scope start u runs) in
-      let z = inner g.1 q scope start u g.3.numbered g.3.agrees in
-      go g.1 (head u) refl asks z.0 z.1
+      let by_place = place inputs view body numbered i q scope start u (here q scope start u runs) in
+      let by_inner = inner by_place.1 q scope start u by_place.3.numbered by_place.3.agrees in
+      go by_place.1 (head u) refl asks by_inner.0 by_inner.1
     where
       decides : (p : ℕ) (f : Expr) → p ≡ q → f ≡ e → view.decide p start scope f ≡ view.decide q start scope e
       decides p f k l = ap (λ z. view.decide z start scope f) k ∙ ap (view.decide q start scope) l
 
       go : (vs : List Act) (a : Act) → head u ≡ a → Asks a e → NumberedAct vs q a → Agrees run (inside inputs view scope start a) (q + 1) (q + act_size a) → Takes (times inputs view body i) start (view.decide q start scope e) a
-      go vs (If p f t v w) k asks n l = let P : Bool → Type 0 = λ b. Takes (times inputs view body i) start b (If p f t v w) in subst P (decides p f n.0 asks) (taken_if vs q scope start p f t v w n l)
-      go vs (When p f t) k asks n l = let P : Bool → Type 0 = λ b. Takes (times inputs view body i) start b (When p f t) in subst P (decides p f n.0 asks) (taken_when vs q scope start p f t u n l runs k)
+      go vs (If p f t v w) k asks n l = let Statement : Bool → Type 0 = λ b. Takes (times inputs view body i) start b (If p f t v w) in subst Statement (decides p f n.0 asks) (taken_if vs q scope start p f t v w n l)
+      go vs (When p f t) k asks n l = let next_Statement : Bool → Type 0 = λ b. Takes (times inputs view body i) start b (When p f t) in subst next_Statement (decides p f n.0 asks) (taken_when vs q scope start p f t u n l runs k)
       go vs (Cycle p c) k asks n l = elim asks [ ]
       go vs (Set p r f) k asks n l = elim asks [ ]
       go vs (Send p m f) k asks n l = elim asks [ ]

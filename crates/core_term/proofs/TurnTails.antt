@@ -50,14 +50,14 @@ module _ (inputs : Inputs) (view : Sees) (body : Term) (numbered : Numbered [] 0
   pub tailed : IsTail body → (i e : ℕ) → times inputs view body i (TermEnd (site (head body))) ≡ At e → (q : ℕ) (scope : ℕ → Outcome) (start : ℕ) (u : Term) → run_of inputs view body i q ≡ Runs scope start u
       → (start < e) × ((c : ℕ) × (times inputs view body i (End q) ≡ At c) × (c ≤ e) × ((m : ℕ) → OnPort (head u) m → c < e))
   tailed tail i e ends q scope start u runs =
-      let o = some_start inputs view body numbered (begins inputs view body i) q scope start u runs in
-      let g = turn_end inputs view body numbered (begins inputs view body i) o.0 e o.1 ends in
-      let l = within inputs body numbered view i q scope start u runs in
-      let y = rw runs at (ended_in inputs view body numbered i q (begins inputs view body i) o.0 e o.1 g l) in
-      let P : Option ℕ → Type 0 = λ w. EarlyIn inputs view (run_from inputs view body w) (run_from inputs view body w q) e in
-      let z = subst P (sym o.1) (early inputs view (run_from inputs view body (Some o.0)) [] 0 no_variable o.0 body e numbered tail (record { each = λ q l m. refl }) g q (omega arith) (omega arith)).is in
-      let w = rw runs at z in
-      (w.0, (y.0, ap (end_at inputs view) runs ∙ y.1, y.2, λ m on. w.1 (talks (head u) m on) y.0 y.1))
+      let by_some_start = some_start inputs view body numbered (begins inputs view body i) q scope start u runs in
+      let by_turn_end = turn_end inputs view body numbered (begins inputs view body i) by_some_start.0 e by_some_start.1 ends in
+      let by_within = within inputs body numbered view i q scope start u runs in
+      let fact = rw runs at (ended_in inputs view body numbered i q (begins inputs view body i) by_some_start.0 e by_some_start.1 by_turn_end by_within) in
+      let Statement : Option ℕ → Type 0 = λ w. EarlyIn inputs view (run_from inputs view body w) (run_from inputs view body w q) e in
+      let next_fact = subst Statement (sym by_some_start.1) (early inputs view (run_from inputs view body (Some by_some_start.0)) [] 0 no_variable by_some_start.0 body e numbered tail (record { each = λ q by_within m. refl }) by_turn_end q (omega arith) (omega arith)).is in
+      let last_fact = rw runs at next_fact in
+      (last_fact.0, (fact.0, ap (end_at inputs view) runs ∙ fact.1, fact.2, λ m on. last_fact.1 (talks (head u) m on) fact.0 fact.1))
 
 module _ (p : Process) (process : IsProcess p) (inputs : Inputs) (registers : ℕ → ℕ → ℕ) (j : ℕ) (thread : Thread) (is : IsThread p.threads j thread) where
   pub last : (i k q m : ℕ) (d : ℤ) (b : Point) → LastPrecedes thread.body (life_of p m) q d b → (t : ℕ) → times_of inputs (sees registers) thread.body i k b ≡ At t → t < inputs.count → pos t <ℤ (pos inputs.count +ℤ d)
@@ -65,5 +65,5 @@ module _ (p : Process) (process : IsProcess p) (inputs : Inputs) (registers : �
   last i k q m d b r t e short less =
       elim (last_law p process inputs registers j thread is m i k q d t b r (occurs_at inputs (sees registers) thread.body (process.numbered j thread is) i k b t e) short less) [
         | inl lost ↦ inl lost
-        | inr z ↦ inr (z.0, z.2, λ c n. let y = z.3 c n in omega (arith, ints, z.4))
+        | inr z ↦ inr (z.0, z.2, λ c n. let part = z.3 c n in omega (arith, ints, z.4))
       ]

@@ -58,7 +58,7 @@ module _ (p : Process) (process : IsProcess p) (inputs : Inputs) (registers : �
   own m t = (omega arith, within_all (wires p inputs registers) t t (life_of p m) each)
     where
       each : (e : LifeEnd) → Has (life_of p m) e → LiesWithin (wires p inputs registers) t t e
-      each (Cycles k) i = let l = process.lasts m k i in omega arith
+      each (Cycles k) i = let by_lasts = process.lasts m k i in omega arith
       each (Until n) i = λ c k l e. omega arith
 
   module _ (j : ℕ) (thread : Thread) (is : IsThread p.threads j thread) where
@@ -90,22 +90,22 @@ module _ (p : Process) (process : IsProcess p) (inputs : Inputs) (registers : �
         go : (w : Fate) → run_of inputs (sees registers) body turn place ≡ w → (b : Runs_at turn place) × EndsIn b t
         go Waits f = absurd (idle_not idle_later (sym (ap (end_at inputs (sees registers)) f) ∙ e))
         go Lost f = absurd (idle_not idle_gone (sym (ap (end_at inputs (sees registers)) f) ∙ e))
-        go (Runs scope s u) f = let b : Runs_at turn place = record { scope = scope; begin = s; term = u; runs = f } in (b, end_found turn place b t e)
+        go (Runs scope s u) f = let the_runs_at : Runs_at turn place = record { scope = scope; begin = s; term = u; runs = f } in (the_runs_at, end_found turn place the_runs_at t e)
 
     -- so has one of the text, of which is known what it is
     pub text_begun : (P : Act → Type 0) (turn place t : ℕ) → HasAct body place P → occurrence inputs (sees registers) (run_of inputs (sees registers) body turn) (End place) ≡ occurs.At t → (b : Runs_at turn place) × P (head b.term) × EndsIn b t
     text_begun P turn place t a e =
-        let f = act_ended turn place t e in
-        let z = begun_stands inputs registers body numbered turn place f.0 in
-        let same : a.1 ≡ f.0.term = one_term a.2 z.1 0 numbered (a.3 ∙ sym (begun_site inputs registers body numbered turn place f.0)) in
-        (f.0, subst (λ v. P (head v)) same a.4, f.1)
+        let by_act_ended = act_ended turn place t e in
+        let by_begun_stands = begun_stands inputs registers body numbered turn place by_act_ended.0 in
+        let same : a.1 ≡ by_act_ended.0.term = one_term a.2 by_begun_stands.1 0 numbered (a.3 ∙ sym (begun_site inputs registers body numbered turn place by_act_ended.0)) in
+        (by_act_ended.0, subst (λ v. P (head v)) same a.4, by_act_ended.1)
 
     -- the cycles of a life that begins at s are over by l
     abbrev Over : ℕ → ℕ → ℕ → Type 0
     Over m s l = (c : ℕ) → InLife (wires p inputs registers) (life_of p m) s c → c ≤ l
 
     over_within : (m n : ℕ) → HasEnding body (life_of p m) (Within (n + 1)) → (s : ℕ) → Over m s (s + n)
-    over_within m n e s c l = let z : c < s + (n + 1) = within_one (wires p inputs registers) s c (life_of p m) (Cycles (n + 1)) l.1 e in omega arith
+    over_within m n e s c l = let is_less : c < s + (n + 1) = within_one (wires p inputs registers) s c (life_of p m) (Cycles (n + 1)) l.1 e in omega arith
 
     turn_of : ℕ → ℕ → Bool → ℕ
     turn_of i k false = i
@@ -121,10 +121,10 @@ module _ (p : Process) (process : IsProcess p) (inputs : Inputs) (registers : �
 
         go : (d : Bool) → nat_lt t c ≡ d → c ≤ t
         go true q =
-            let z : t < c = grind (arith, nat_tests) in
-            let y = at_turn b.late (let P : Spot → Type 0 = λ z. Occurs inputs (sees registers) body numbered i k (point b.late z) t in subst P e.4 o) in
-            let w = text_begun (λ a. OnPort a e.0) (turn_of i k b.late) e.1 t e.3 y in
-            absurd (within_one (wires p inputs registers) s c (life_of p m) (Until e.0) n.1 e.2 t l z (exchange_of inputs registers p process e.0 t j thread is (turn_of i k b.late) e.1 w.0 w.1 w.2))
+            let next_is_less : t < c = grind (arith, nat_tests) in
+            let y = at_turn b.late (let Statement : Spot → Type 0 = λ next_is_less. Occurs inputs (sees registers) body numbered i k (point b.late next_is_less) t in subst Statement e.4 o) in
+            let by_text_begun = text_begun (λ a. OnPort a e.0) (turn_of i k b.late) e.1 t e.3 y in
+            absurd (within_one (wires p inputs registers) s c (life_of p m) (Until e.0) n.1 e.2 t l next_is_less (exchange_of inputs registers p process e.0 t j thread is (turn_of i k b.late) e.1 by_text_begun.0 by_text_begun.1 by_text_begun.2))
         go false q = grind (arith, nat_tests)
 
     -- the last law of a send
@@ -132,7 +132,7 @@ module _ (p : Process) (process : IsProcess p) (inputs : Inputs) (registers : �
         → (occurrence inputs (sees registers) (run_of inputs (sees registers) body i) (End q) ≡ Gone) ⊎ ((e l : ℕ) × (occurrence inputs (sees registers) (run_of inputs (sees registers) body i) (End q) ≡ occurs.At e) × Over m e l × ((pos l +ℤ d) ≤ℤ pos t))
     last_law m i k q d t b r o l less =
         last.last_law Point (HasForm body) (Exclusive body) inputs.count (Left inputs (sees registers) body numbered i k) (Occurs inputs (sees registers) body numbered i k) (IsLost inputs (sees registers) body numbered i k) (timed inputs (sees registers) body numbered i k)
-        (HasEnding body (life_of p m)) (Over m) (λ e. let z = process.lasts m 0 e in omega arith) (over_within m) (over_at m i k) (point false (End q)) (inl refl) r t o l less
+        (HasEnding body (life_of p m)) (Over m) (λ e. let by_lasts = process.lasts m 0 e in omega arith) (over_within m) (over_at m i k) (point false (End q)) (inl refl) r t o l less
 
     -- the use of a send that began in turn i is over
     pub send_over : (m i k q : ℕ) (d : ℤ) (t : ℕ) (late : Bool) (spot : Spot) → (b : Runs_at i q) → LastPrecedes body (life_of p m) q d (point late spot) → Occurs inputs (sees registers) body numbered i k (point late spot) t → t < inputs.count → pos t <ℤ (pos inputs.count +ℤ d)
@@ -140,29 +140,29 @@ module _ (p : Process) (process : IsProcess p) (inputs : Inputs) (registers : �
     send_over m i k q d t late spot b r o l less =
         elim (last_law m i k q d t (point late spot) r o l less) [
           | inl z ↦ absurd (end_not_gone i q b z)
-          | inr z ↦ (z.0, end_found i q b z.0 z.2, λ c n. let y = z.3 c n in omega (arith, ints, z.4))
+          | inr z ↦ (z.0, end_found i q b z.0 z.2, λ c n. let part = z.3 c n in omega (arith, ints, z.4))
         ]
 
     -- a begin of turn i
     pub begin_over : (i k q : ℕ) (d : ℤ) (t : ℕ) (late : Bool) (spot : Spot) (b : Runs_at i q) → Holds p body (demand.Order (demand.begin_of q) d (point late spot)) → Occurs inputs (sees registers) body numbered i k (point late spot) t → pos t <ℤ (pos inputs.count +ℤ d) → (pos b.begin +ℤ d) ≤ℤ pos t
     begin_over i k q d t late spot b r o less =
         elim (order_law inputs (sees registers) body numbered i k (demand.begin_of q) (point late spot) d r (inl refl) t o less) [
-          | inl z ↦ let y : occurs.At b.begin ≡ Gone = sym (at_begin i q b) ∙ z in absurd (idle_not idle_gone (sym y))
-          | inr z ↦ let y : occurs.At b.begin ≡ occurs.At z.0 = sym (at_begin i q b) ∙ z.2 in let w : b.begin ≡ z.0 = cc in omega (arith, ints, z.1)
+          | inl z ↦ let equal : occurs.At b.begin ≡ Gone = sym (at_begin i q b) ∙ z in absurd (idle_not idle_gone (sym equal))
+          | inr z ↦ let next_equal : occurs.At b.begin ≡ occurs.At z.0 = sym (at_begin i q b) ∙ z.2 in let last_equal : b.begin ≡ z.0 = cc in omega (arith, ints, z.1)
         ]
 
     -- an end of turn i
     pub end_over : (i k q : ℕ) (d : ℤ) (t e : ℕ) (late : Bool) (spot : Spot) → occurrence inputs (sees registers) (run_of inputs (sees registers) body i) (End q) ≡ occurs.At e → Holds p body (demand.Order (demand.end_of q) d (point late spot)) → Occurs inputs (sees registers) body numbered i k (point late spot) t → pos t <ℤ (pos inputs.count +ℤ d) → (pos e +ℤ d) ≤ℤ pos t
     end_over i k q d t e late spot f r o less =
         elim (order_law inputs (sees registers) body numbered i k (demand.end_of q) (point late spot) d r (inl refl) t o less) [
-          | inl z ↦ let y : occurs.At e ≡ Gone = sym f ∙ z in absurd (idle_not idle_gone (sym y))
-          | inr z ↦ let y : occurs.At e ≡ occurs.At z.0 = sym f ∙ z.2 in let w : e ≡ z.0 = cc in omega (arith, ints, z.1)
+          | inl z ↦ let other_equal : occurs.At e ≡ Gone = sym f ∙ z in absurd (idle_not idle_gone (sym other_equal))
+          | inr z ↦ let more_equal : occurs.At e ≡ occurs.At z.0 = sym f ∙ z.2 in let further_equal : e ≡ z.0 = cc in omega (arith, ints, z.1)
         ]
 
     at_once : (i k q : ℕ) (d : ℤ) (t c : ℕ) (late : Bool) (spot : Spot) (b : Runs_at i q) (a : Act) → site a ≡ q → Holds p body (demand.Order (demand.begin_of (site a)) d (point late spot)) → Occurs inputs (sees registers) body numbered i k (point late spot) t → pos t <ℤ (pos inputs.count +ℤ d) → c ≡ b.begin → (pos c +ℤ d) ≤ℤ pos t
     at_once i k q d t c late spot b a s r o less e =
-        let P : ℕ → Type 0 = λ z. Holds p body (demand.Order (demand.begin_of z) d (point late spot)) in
-        let y = begin_over i k q d t late spot b (subst P s r) o less in omega (arith, ints)
+        let Statement : ℕ → Type 0 = λ z. Holds p body (demand.Order (demand.begin_of z) d (point late spot)) in
+        let by_begin_over = begin_over i k q d t late spot b (subst Statement s r) o less in omega (arith, ints)
 
     -- a use of a value that began in turn i, in each cycle of it
     pub use_law : (i k q : ℕ) (d : ℤ) (t c : ℕ) (late : Bool) (spot : Spot) (b : Runs_at i q) → Holds p body (use_by (head b.term) d (point late spot)) → Occurs inputs (sees registers) body numbered i k (point late spot) t → t < inputs.count → pos t <ℤ (pos inputs.count +ℤ d)
@@ -171,10 +171,10 @@ module _ (p : Process) (process : IsProcess p) (inputs : Inputs) (registers : �
       where
         go : (a : Act) → head b.term ≡ a → site a ≡ q → Holds p body (use_by a d (point late spot)) → InUse p inputs registers b.scope b.begin a c → (pos c +ℤ d) ≤ℤ pos t
         go (Send q' m e) k' s r u =
-            let P : ℕ → Type 0 = λ z. LastPrecedes body (life_of p m) z d (point late spot) in
-            let z = send_over m i k q d t late spot b (subst P s r) o l less in
-            let v : act_ends inputs (sees registers) b.scope b.begin (Send q' m e) ≡ Done z.0 z.1.0 = ap (act_ends inputs (sees registers) b.scope b.begin) (sym k') ∙ z.1.1 in
-            elim (u.2 z.0 z.1.0 v) [ inl y ↦ let w = z.2 z.0 (own m z.0) in omega (arith, ints) | inr y ↦ z.2 c y ]
+            let next_Statement : ℕ → Type 0 = λ z. LastPrecedes body (life_of p m) z d (point late spot) in
+            let by_send_over = send_over m i k q d t late spot b (subst next_Statement s r) o l less in
+            let equal : act_ends inputs (sees registers) b.scope b.begin (Send q' m e) ≡ Done by_send_over.0 by_send_over.1.0 = ap (act_ends inputs (sees registers) b.scope b.begin) (sym k') ∙ by_send_over.1.1 in
+            elim (u.2 by_send_over.0 by_send_over.1.0 equal) [ inl y ↦ let by_by_send_over = by_send_over.2 by_send_over.0 (own m by_send_over.0) in omega (arith, ints) | inr y ↦ by_send_over.2 c y ]
         go (Set q' n e) k' s r u = at_once i k q d t c late spot b (Set q' n e) s r o less u
         go (If q' e v w f) k' s r u = at_once i k q d t c late spot b (If q' e v w f) s r o less u
         go (When q' e v) k' s r u = at_once i k q d t c late spot b (When q' e v) s r o less u

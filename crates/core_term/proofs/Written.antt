@@ -38,8 +38,8 @@ module _ (inputs : Inputs) (registers : ℕ → ℕ → ℕ) where
     where
       go : (b : Bool) → (q == r) && (s == t) ≡ b → (if b then Some (value registers scope s e).number else None) ≡ Some v → (e' : Expr) × (q ≡ r) × (e ≡ e') × (s ≡ t) × ((value registers scope s e').number ≡ v)
       go true f i =
-          let y : (q == r) ≡ true = and_first (q == r) (s == t) f in
-          let z : (s == t) ≡ true = and_second (q == r) (s == t) f in
+          let decided : (q == r) ≡ true = and_first (q == r) (s == t) f in
+          let next_decided : (s == t) ≡ true = and_second (q == r) (s == t) f in
           (e, grind (arith, nat_tests), refl, grind (arith, nat_tests), cc)
       go false f i = absurd cc
   set_is r t s v scope (Cycle p n) k = absurd cc
@@ -55,9 +55,9 @@ module _ (inputs : Inputs) (registers : ℕ → ℕ → ℕ) where
   is_set : (r t s : ℕ) (scope : ℕ → Outcome) (a : Act) → Sets a r → s ≡ t → has (set_by registers r t scope s a) ≡ true
   is_set r t s scope (Set p q e) k l =
       let k' : q ≡ r = k in
-      let y : (q == r) ≡ true = grind (arith, nat_tests) in
-      let z : (s == t) ≡ true = grind (arith, nat_tests) in
-      rw (y, z) refl
+      let last_decided : (q == r) ≡ true = grind (arith, nat_tests) in
+      let other_decided : (s == t) ≡ true = grind (arith, nat_tests) in
+      rw (last_decided, other_decided) refl
   is_set r t s scope (Cycle p n) k l = elim k [ ]
   is_set r t s scope (Send p m e) k l = elim k [ ]
   is_set r t s scope (Recv p m) k l = elim k [ ]
@@ -72,20 +72,20 @@ module _ (inputs : Inputs) (registers : ℕ → ℕ → ℕ) where
       → (b : Begun inputs registers thread.body i q) × (e : Expr) × Sets (head b.term) r × Uses (head b.term) e × (b.begin ≡ t) × ((value registers b.scope b.begin e).number ≡ v)
   at_is thread i q r t v Waits e k = absurd cc
   at_is thread i q r t v Lost e k = absurd cc
-  at_is thread i q r t v (Runs scope s u) e k = let z = set_is r t s v scope (head u) k in (record { scope = scope; begin = s; term = u; runs = e }, z.0, z.1, z.2, z.3, z.4)
+  at_is thread i q r t v (Runs scope s u) e k = let by_set_is = set_is r t s v scope (head u) k in (record { scope = scope; begin = s; term = u; runs = e }, by_set_is.0, by_set_is.1, by_set_is.2, by_set_is.3, by_set_is.4)
 
   pub written_is : (threads : List Thread) (r t v : ℕ) → written_by inputs registers threads r t ≡ Some v → Writes threads r t v
   written_is [] r t v k = absurd cc
   written_is (thread ∷ more) r t v k =
       elim (or_some (written inputs registers thread r t) (written_by inputs registers more r t) v k) [
         | inl e ↦
-            let y = greatest_some _ thread.count v e in
-            let z = greatest_some _ (t + 1) v y.2 in
-            let w = at_is thread z.0 y.0 r t v _ refl z.2 in
-            record { j = 0; thread = thread; is = refl; turn = z.0; place = y.0; act = w.0; expr = w.1; sets = w.2; uses = w.3; now = w.4; number = w.5 }
+            let by_greatest_some = greatest_some _ thread.count v e in
+            let next_by_greatest_some = greatest_some _ (t + 1) v by_greatest_some.2 in
+            let by_at_is = at_is thread next_by_greatest_some.0 by_greatest_some.0 r t v _ refl next_by_greatest_some.2 in
+            record { j = 0; thread = thread; is = refl; turn = next_by_greatest_some.0; place = by_greatest_some.0; act = by_at_is.0; expr = by_at_is.1; sets = by_at_is.2; uses = by_at_is.3; now = by_at_is.4; number = by_at_is.5 }
         | inr e ↦
-            let w = written_is more r t v e in
-            record { j = suc w.j; thread = w.thread; is = w.is; turn = w.turn; place = w.place; act = w.act; expr = w.expr; sets = w.sets; uses = w.uses; now = w.now; number = w.number }
+            let by_written_is = written_is more r t v e in
+            record { j = suc by_written_is.j; thread = by_written_is.thread; is = by_written_is.is; turn = by_written_is.turn; place = by_written_is.place; act = by_written_is.act; expr = by_written_is.expr; sets = by_written_is.sets; uses = by_written_is.uses; now = by_written_is.now; number = by_written_is.number }
       ]
 
   has_written : (threads : List Thread) (r t j : ℕ) (thread : Thread) → IsThread threads j thread → (i q : ℕ) → i < t + 1 → q < thread.count → (b : Begun inputs registers thread.body i q) → Sets (head b.term) r → b.begin ≡ t → has (written_by inputs registers threads r t) ≡ true
@@ -98,10 +98,10 @@ module _ (inputs : Inputs) (registers : ℕ → ℕ → ℕ) where
   module _ (p : Process) (process : IsProcess p) where
     pub is_written : (r t j : ℕ) (thread : Thread) → IsThread p.threads j thread → (i q : ℕ) (b : Begun inputs registers thread.body i q) → Sets (head b.term) r → b.begin ≡ t → has (written_by inputs registers p.threads r t) ≡ true
     is_written r t j thread is i q b k e =
-        let n = process.numbered j thread is in
-        let c : thread.count ≡ size thread.body = process.counted j thread is in
-        let l : i ≤ b.begin = turn_by inputs registers thread.body n (process.takes_time j thread is) i q b in
-        let m : q < size thread.body = (ran inputs registers thread.body n i q b).inside in
+        let by_numbered = process.numbered j thread is in
+        let equal : thread.count ≡ size thread.body = process.counted j thread is in
+        let at_most : i ≤ b.begin = turn_by inputs registers thread.body by_numbered (process.takes_time j thread is) i q b in
+        let is_less : q < size thread.body = (ran inputs registers thread.body by_numbered i q b).inside in
         has_written p.threads r t j thread is i q (omega arith) (omega arith) b k e
 
     -- no set of r begins from t on, before c
@@ -111,15 +111,15 @@ module _ (inputs : Inputs) (registers : ℕ → ℕ → ℕ) where
     module _ (history : IsHistory p inputs registers) where
       -- so r stays as it is
       pub steady : (r t n : ℕ) → t + n ≤ inputs.count → NoSet r t (t + n) → registers (t + n) r ≡ registers t r
-      steady r t zero l k = let e : t + 0 ≡ t = omega arith in ap (λ z. registers z r) e
+      steady r t zero l k = let next_equal : t + 0 ≡ t = omega arith in ap (λ z. registers z r) next_equal
       steady r t (suc n) l k =
           let before : registers (t + n) r ≡ registers t r = steady r t n (omega arith) (λ j thread is i q b s a c. k j thread is i q b s a (omega arith)) in
-          let e : t + suc n ≡ t + n + 1 = omega arith in
+          let last_equal : t + suc n ≡ t + n + 1 = omega arith in
           let short : t + n < inputs.count = omega arith in
-          ap (λ z. registers z r) e ∙ (history.step (t + n) r short ∙ (go (written_by inputs registers p.threads r (t + n)) refl ∙ before))
+          ap (λ z. registers z r) last_equal ∙ (history.step (t + n) r short ∙ (go (written_by inputs registers p.threads r (t + n)) refl ∙ before))
         where
           go : (o : Option ℕ) → written_by inputs registers p.threads r (t + n) ≡ o → get_else o (registers (t + n) r) ≡ registers (t + n) r
           go None e = refl
           go (Some v) e =
-              let w = written_is p.threads r (t + n) v e in
-              absurd (k w.j w.thread w.is w.turn w.place w.act w.sets (omega (arith, w.now)) (omega (arith, w.now)))
+              let by_written_is = written_is p.threads r (t + n) v e in
+              absurd (k by_written_is.j by_written_is.thread by_written_is.is by_written_is.turn by_written_is.place by_written_is.act by_written_is.sets (omega (arith, by_written_is.now)) (omega (arith, by_written_is.now)))

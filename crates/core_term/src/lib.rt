@@ -3,8 +3,6 @@
 
 mod accepted;
 pub mod accepted_example;
-#[cfg(test)]
-mod accepted_tests;
 pub mod agreement;
 mod atoms;
 pub mod example;
@@ -18,8 +16,6 @@ pub mod safety;
 mod table;
 pub mod tables;
 mod term;
-#[cfg(test)]
-mod tests;
 mod thread;
 pub mod turns;
 

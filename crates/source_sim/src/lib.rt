@@ -14,8 +14,6 @@ mod parts;
 mod passes;
 mod sim;
 mod start;
-#[cfg(test)]
-mod tests;
 mod thread;
 mod widths;
 

@@ -9,12 +9,8 @@ mod lines;
 mod log;
 mod passing;
 mod pieces;
-#[cfg(test)]
-mod samples;
 mod seen;
 mod stimulus;
-#[cfg(test)]
-mod tests;
 mod watch;
 mod wires;
 

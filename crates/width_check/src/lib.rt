@@ -15,8 +15,6 @@ mod tables;
 mod tail;
 mod taken;
 mod terms;
-#[cfg(test)]
-mod tests;
 mod threads;
 
 pub use anvil_tree::File;

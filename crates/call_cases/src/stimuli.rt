@@ -1,6 +1,6 @@
 //! A stimulus of an exchanger is read, with values written out by hand; each call that takes memory meets none that is refused.
 use crate::samples::exchanger;
-use crate::{InCell, StimErr, Watch, read_stim};
+use stim_text::{InCell, StimErr, Watch, read_stim};
 use anvil_bits::Bits;
 use std::test::Fail;
 

@@ -1,5 +1,5 @@
 //! That a file is accepted, and read again.
-use crate::accepted_example::accepted_counter;
+use core_term::accepted_example::accepted_counter;
 use std::alloc::AllocError;
 
 #[test]

@@ -1,7 +1,7 @@
 -- No ports, and places for the registers.
 use Rattle.std.proofs.Common.{◌≡◌, length}
 use Rattle.source_sim.specs.Seen.{process_in, HasRoom}
-use Rattle.source_sim.proofs.tests.a_counter_adds_in_every_third_cycle.Given as goal
+use Rattle.call_cases.proofs.runs.a_counter_adds_in_every_third_cycle.Given as goal
 
 abbrev pub invariant-loop-wanted : goal.invariant-loop-wanted
 invariant-loop-wanted g l = record {

@@ -1,6 +1,6 @@
 //! Each public call once on its happy path.
-use crate::example::{counting_body, counting_process};
-use crate::{CoreThread, OutRow, SourceAtom};
+use core_term::example::{counting_body, counting_process};
+use core_term::{CoreThread, OutRow, SourceAtom};
 use std::alloc::AllocError;
 
 #[test]

@@ -1,5 +1,5 @@
 //! A file of one process is read: that a call can succeed is no clause.
-use crate::resolve;
+use width_check::resolve;
 use anvil_lexer::Name;
 use anvil_tree::{Act, ActKind, Expr, ExprKind, File, Item, Proc, Register, Term};
 use channel_classes::read_classes;

@@ -1,5 +1,5 @@
 //! A file of one class is read: that a call can succeed is no clause.
-use crate::read_classes;
+use channel_classes::read_classes;
 use anvil_lexer::Name;
 use anvil_tree::{Chan, File, Item, LifeText, Message, Side};
 use std::test::Fail;
