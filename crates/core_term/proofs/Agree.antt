@@ -35,8 +35,8 @@ by_when t Open = not_by (λ c v e l. cc)
 by_when t (Done a v) = go (nat_le a t) refl
   where
     go : (b : Bool) → nat_le a t ≡ b → By t (Done a v)
-    go true e = let k : a ≤ t = grind (arith, nat_tests) in by a v refl k
-    go false e = let k : t < a = grind (arith, nat_tests) in not_by (λ c w f l. let z : a ≡ c = cc in omega arith)
+    go true e = let at_most : a ≤ t = grind (arith, nat_tests) in by a v refl at_most
+    go false e = let is_less : t < a = grind (arith, nat_tests) in not_by (λ c w f l. let equal : a ≡ c = cc in omega arith)
 
 -- the same rows up to cycle t
 pub record RowsTo (t : ℕ) (inputs inputs' : Inputs) : Type 0 where
@@ -57,8 +57,8 @@ module _ (t : ℕ) (inputs inputs' : Inputs) (view view' : Sees) (run run' : ℕ
   together low high f g p l = go (nat_lt p low) refl
     where
       go : (b : Bool) → nat_lt p low ≡ b → SameFate t (run p) (run' p)
-      go true e = let k : p < low = grind (arith, nat_tests) in f p k
-      go false e = let k : low ≤ p = grind (arith, nat_tests) in g p k l
+      go true e = let next_is_less : p < low = grind (arith, nat_tests) in f p next_is_less
+      go false e = let next_at_most : low ≤ p = grind (arith, nat_tests) in g p next_at_most l
 
   -- each `if` that both reach by t decides alike, if all before it does
   abbrev pub DecideAlike : Type 0
@@ -70,8 +70,8 @@ module _ (t : ℕ) (inputs inputs' : Inputs) (view view' : Sees) (run run' : ℕ
     late_once z (Done c v) k f g = go (nat_lt c z.count) (nat_le c t) refl
       where
         go : (b d : Bool) → nat_le c t ≡ d → Late t (if b then k c v else Waits)
-        go true true e = let l : c ≤ t = grind (arith, nat_tests) in λ scope s u i m. f c v refl l
-        go true false e = let l : t < c = grind (arith, nat_tests) in late_from t c (k c v) l (g c v)
+        go true true e = let at_most : c ≤ t = grind (arith, nat_tests) in λ scope s u i m. f c v refl at_most
+        go true false e = let is_less : t < c = grind (arith, nat_tests) in late_from t c (k c v) is_less (g c v)
         go false d e = waits_late t
 
     late_end : (z : Inputs) (r : Outcome) (k : ℕ → Value → Outcome) → ((c : ℕ) (v : Value) → r ≡ Done c v → c ≤ t → ⊥) → ((c : ℕ) (v : Value) (e : ℕ) → of_outcome (k c v) ≡ At e → c ≤ e) → (e : ℕ) (v : Value) → e ≤ t → after_end z r k ≡ Done e v → ⊥
@@ -79,13 +79,13 @@ module _ (t : ℕ) (inputs inputs' : Inputs) (view view' : Sees) (run run' : ℕ
     late_end z (Done c w) k f g e v l q = go (nat_lt c z.count) q
       where
         go : (b : Bool) → (if b then k c w else Open) ≡ Done e v → ⊥
-        go true i = let m : c ≤ e = g c w e (ap of_outcome i) in f c w refl (omega arith)
+        go true i = let next_at_most : c ≤ e = g c w e (ap of_outcome i) in f c w refl (omega arith)
         go false i = cc
 
     own : (low : ℕ) (scope scope' : ℕ → Outcome) (s : ℕ) (u : Term) → run low ≡ Runs scope s u → run' low ≡ Runs scope' s u → SameScope t scope scope' → SameFate t (run low) (run' low)
     own low scope scope' s u e e' k = record {
-      there = λ a b c f l. let z = runs_parts f e in (scope', rw (z.1, z.2) e', subst (λ y. SameScope t y scope') (sym z.0) k);
-      back = λ a b c f l. let z = runs_parts f e' in (scope, rw (z.1, z.2) e, subst (λ y. SameScope t scope y) (sym z.0) k);
+      there = λ a b c f l. let by_runs_parts = runs_parts f e in (scope', rw (by_runs_parts.1, by_runs_parts.2) e', subst (λ y. SameScope t y scope') (sym by_runs_parts.0) k);
+      back = λ a b c f l. let next_by_runs_parts = runs_parts f e' in (scope, rw (next_by_runs_parts.1, next_by_runs_parts.2) e, subst (λ y. SameScope t scope y) (sym next_by_runs_parts.0) k);
     }
       where
         env_of : Fate → ℕ → Outcome
@@ -103,25 +103,25 @@ module _ (t : ℕ) (inputs inputs' : Inputs) (view view' : Sees) (run run' : ℕ
     seam low mid high f g p l m = go (nat_lt p mid) refl
       where
         go : (b : Bool) → nat_lt p mid ≡ b → SameFate t (run p) (run' p)
-        go true e = let k : p < mid = grind (arith, nat_tests) in f p l k
-        go false e = let k : mid ≤ p = grind (arith, nat_tests) in g p k m
+        go true e = let is_less : p < mid = grind (arith, nat_tests) in f p l is_less
+        go false e = let at_most : mid ≤ p = grind (arith, nat_tests) in g p at_most m
 
     first_then : (low high : ℕ) → SameFate t (run low) (run' low) → Within (low + 1) high → Within low high
     first_then low high f g p l m = go (nat_lt low p) refl
       where
         go : (b : Bool) → nat_lt low p ≡ b → SameFate t (run p) (run' p)
-        go true e = let k : low < p = grind (arith, nat_tests) in g p (omega arith) m
-        go false e = let k : p ≤ low = grind (arith, nat_tests) in let k' : low ≡ p = omega arith in subst (λ z. SameFate t (run z) (run' z)) k' f
+        go true e = let next_is_less : low < p = grind (arith, nat_tests) in g p (omega arith) m
+        go false e = let next_at_most : p ≤ low = grind (arith, nat_tests) in let k' : low ≡ p = omega arith in subst (λ z. SameFate t (run z) (run' z)) k' f
 
     one_more : (low : ℕ) → SameBefore low → SameFate t (run low) (run' low) → SameBefore (low + 1)
-    one_more low f g = together low (low + 1) f (λ p l m. let k : low ≡ p = omega arith in subst (λ z. SameFate t (run z) (run' z)) k g)
+    one_more low f g = together low (low + 1) f (λ p l m. let equal : low ≡ p = omega arith in subst (λ z. SameFate t (run z) (run' z)) equal g)
 
     -- what goes on after an act
     rest_is : (y : Inputs) (vs : List Act) (low : ℕ) (g : Sees) (r : ℕ → Fate) (scope : ℕ → Outcome) (s : ℕ) (a : Act) (u : Term) → Numbered vs low (Then a u) → Agrees r (fate y g scope s (Then a u)) low (low + size (Then a u)) → (q : ℕ) → low + act_size a ≤ q → q < low + act_size a + size u
         → r q ≡ once y (act_ends y g scope s a) (λ c v. fate y g (bind scope (site a) (Done c v)) c u q)
     rest_is y vs low g r scope s a u n f q l m =
-        let p : 0 < act_size a = act_size_positive a in
-        let i : site (head u) ≡ low + act_size a = head_site _ _ u n.1 in
+        let last_is_less : 0 < act_size a = act_size_positive a in
+        let next_equal : site (head u) ≡ low + act_size a = head_site _ _ u n.1 in
         f.each q (omega arith) (omega arith) ∙ pick_ge q (site (head u)) _ _ (omega arith)
 
     Both_same : Type 0
@@ -155,16 +155,16 @@ module _ (t : ℕ) (inputs inputs' : Inputs) (view view' : Sees) (run run' : ℕ
             let e' : act_ends inputs' view' scope' s a ≡ Done c v = in_text.there c v l e in
             let lx : t < inputs.count = rows.long in
             let lx' : t < inputs'.count = rows.long' in
-            let i : nat_lt c inputs.count ≡ true = grind (arith, nat_tests) in
+            let decided : nat_lt c inputs.count ≡ true = grind (arith, nat_tests) in
             let i' : nat_lt c inputs'.count ≡ true = grind (arith, nat_tests) in
-            let r : Agrees run (fate inputs view (bind scope (site a) (Done c v)) c u) (low + act_size a) (low + act_size a + size u) =
-            record { each = λ q y z. rest_is inputs vs low view run scope s a u n g q y z ∙ (ap (λ o. once inputs o (λ c v. fate inputs view (bind scope (site a) (Done c v)) c u q)) e ∙ ap (λ b. if b then fate inputs view (bind scope (site a) (Done c v)) c u q else Waits) i) } in
+            let the_agrees : Agrees run (fate inputs view (bind scope (site a) (Done c v)) c u) (low + act_size a) (low + act_size a + size u) =
+            record { each = λ q y z. rest_is inputs vs low view run scope s a u n g q y z ∙ (ap (λ o. once inputs o (λ c v. fate inputs view (bind scope (site a) (Done c v)) c u q)) e ∙ ap (λ b. if b then fate inputs view (bind scope (site a) (Done c v)) c u q else Waits) decided) } in
             let r' : Agrees run' (fate inputs' view' (bind scope' (site a) (Done c v)) c u) (low + act_size a) (low + act_size a + size u) =
             record { each = λ q y z. rest_is inputs' vs low view' run' scope' s a u n g' q y z ∙ (ap (λ o. once inputs' o (λ c v. fate inputs' view' (bind scope' (site a) (Done c v)) c u q)) e' ∙ ap (λ b. if b then fate inputs' view' (bind scope' (site a) (Done c v)) c u q else Waits) i') } in
-            let z = goes (bind scope (site a) (Done c v)) (bind scope' (site a) (Done c v)) c l r r' (same_bind (site a) k (same_refl t (Done c v))) in
-            let q : after_end inputs (act_ends inputs view scope s a) K ≡ K c v = ap (λ o. after_end inputs o K) e ∙ ap (λ b. if b then K c v else Open) i in
+            let by_goes = goes (bind scope (site a) (Done c v)) (bind scope' (site a) (Done c v)) c l the_agrees r' (same_bind (site a) k (same_refl t (Done c v))) in
+            let equal : after_end inputs (act_ends inputs view scope s a) K ≡ K c v = ap (λ o. after_end inputs o K) e ∙ ap (λ b. if b then K c v else Open) decided in
             let q' : after_end inputs' (act_ends inputs' view' scope' s a) K' ≡ K' c v = ap (λ o. after_end inputs' o K') e' ∙ ap (λ b. if b then K' c v else Open) i' in
-            (z.0, record { there = λ d w m y. q' ∙ z.1.there d w m (sym q ∙ y); back = λ d w m y. q ∙ z.1.back d w m (sym q' ∙ y) })
+            (by_goes.0, record { there = λ d w m y. q' ∙ by_goes.1.there d w m (sym equal ∙ y); back = λ d w m y. equal ∙ by_goes.1.back d w m (sym q' ∙ y) })
 
     decided_same : (w : Bool) (p s : ℕ) (o o' : Outcome) → SameTo t o o' → SameTo t (decided w p s o) (decided w p s o')
     decided_same w p s o o' k = record { there = decided_there t w p s o o' k.there; back = decided_there t w p s o' o k.back }
@@ -179,30 +179,30 @@ module _ (t : ℕ) (inputs inputs' : Inputs) (view view' : Sees) (run run' : ℕ
         → (c c' : Bool) → view.decide p s scope f ≡ c → view'.decide p s scope' f ≡ c → SameBefore (low + 1) → Side vs (low + 1) scope scope' s u → Side vs (low + (1 + size u)) scope scope' s v
         → Within (low + 1) (low + (1 + (size u + size v))) × SameTo t (if view.decide p s scope f then ends inputs view scope s u else ends inputs view scope s v) (if view'.decide p s scope' f then ends inputs' view' scope' s u else ends inputs' view' scope' s v)
     if_agree vs low scope scope' s p f u v d n g g' true c' e e' b y z =
-        let r : (q : ℕ) → low + 1 ≤ q → q < low + 1 + size u → run q ≡ fate inputs view scope s u q = λ q l m. if_yes_is inputs view run vs low scope s p f u v d n g q l m ∙ ap (λ c. if c then fate inputs view scope s u q else Lost) e in
+        let at_most : (q : ℕ) → low + 1 ≤ q → q < low + 1 + size u → run q ≡ fate inputs view scope s u q = λ q l m. if_yes_is inputs view run vs low scope s p f u v d n g q l m ∙ ap (λ c. if c then fate inputs view scope s u q else Lost) e in
         let r' : (q : ℕ) → low + 1 ≤ q → q < low + 1 + size u → run' q ≡ fate inputs' view' scope' s u q = λ q l m. if_yes_is inputs' view' run' vs low scope' s p f u v d n g' q l m ∙ ap (λ c. if c then fate inputs' view' scope' s u q else Lost) e' in
-        let i = y (record { each = r }) (record { each = r' }) b in
-        let j = lost_both (low + (1 + size u)) (low + (1 + size u) + size v)
+        let part = y (record { each = at_most }) (record { each = r' }) b in
+        let by_lost_both = lost_both (low + (1 + size u)) (low + (1 + size u) + size v)
         (λ q l m. if_no_is inputs view run vs low scope s p f u v d n g q l m ∙ ap (λ c. if c then Lost else fate inputs view scope s v q) e)
         (λ q l m. if_no_is inputs' view' run' vs low scope' s p f u v d n g' q l m ∙ ap (λ c. if c then Lost else fate inputs' view' scope' s v q) e') in
-        ((λ q l m. seam (low + 1) (low + (1 + size u)) (low + (1 + size u) + size v) (λ q l m. i.0 q l (omega arith)) j q l (omega arith)), rw (e, e') i.1)
+        ((λ q l m. seam (low + 1) (low + (1 + size u)) (low + (1 + size u) + size v) (λ q l m. part.0 q l (omega arith)) by_lost_both q l (omega arith)), rw (e, e') part.1)
     if_agree vs low scope scope' s p f u v d n g g' false c' e e' b y z =
-        let r : (q : ℕ) → low + (1 + size u) ≤ q → q < low + (1 + size u) + size v → run q ≡ fate inputs view scope s v q = λ q l m. if_no_is inputs view run vs low scope s p f u v d n g q l m ∙ ap (λ c. if c then Lost else fate inputs view scope s v q) e in
+        let next_at_most : (q : ℕ) → low + (1 + size u) ≤ q → q < low + (1 + size u) + size v → run q ≡ fate inputs view scope s v q = λ q l m. if_no_is inputs view run vs low scope s p f u v d n g q l m ∙ ap (λ c. if c then Lost else fate inputs view scope s v q) e in
         let r' : (q : ℕ) → low + (1 + size u) ≤ q → q < low + (1 + size u) + size v → run' q ≡ fate inputs' view' scope' s v q = λ q l m. if_no_is inputs' view' run' vs low scope' s p f u v d n g' q l m ∙ ap (λ c. if c then Lost else fate inputs' view' scope' s v q) e' in
-        let j = lost_both (low + 1) (low + 1 + size u)
+        let next_by_lost_both = lost_both (low + 1) (low + 1 + size u)
         (λ q l m. if_yes_is inputs view run vs low scope s p f u v d n g q l m ∙ ap (λ c. if c then fate inputs view scope s u q else Lost) e)
         (λ q l m. if_yes_is inputs' view' run' vs low scope' s p f u v d n g' q l m ∙ ap (λ c. if c then fate inputs' view' scope' s u q else Lost) e') in
-        let b' : SameBefore (low + (1 + size u)) = λ q l. together (low + 1) (low + 1 + size u) b j q (omega arith) in
-        let i = z (record { each = r }) (record { each = r' }) b' in
-        ((λ q l m. seam (low + 1) (low + (1 + size u)) (low + (1 + size u) + size v) (λ q l m. j q l (omega arith)) i.0 q l (omega arith)), rw (e, e') i.1)
+        let b' : SameBefore (low + (1 + size u)) = λ q l. together (low + 1) (low + 1 + size u) b next_by_lost_both q (omega arith) in
+        let next_part = z (record { each = next_at_most }) (record { each = r' }) b' in
+        ((λ q l m. seam (low + 1) (low + (1 + size u)) (low + (1 + size u) + size v) (λ q l m. next_by_lost_both q l (omega arith)) next_part.0 q l (omega arith)), rw (e, e') next_part.1)
 
     when_agree : (vs : List Act) (low : ℕ) (scope scope' : ℕ → Outcome) (s p : ℕ) (f : Expr) (u : Term) → Agrees run (inside inputs view scope s (When p f u)) (low + 1) (low + act_size (When p f u)) → Agrees run' (inside inputs' view' scope' s (When p f u)) (low + 1) (low + act_size (When p f u))
         → (c : Bool) → view.decide p s scope f ≡ c → view'.decide p s scope' f ≡ c → SameBefore (low + 1) → Side vs (low + 1) scope scope' s u
         → Within (low + 1) (low + (1 + size u)) × SameTo t (if view.decide p s scope f then ends inputs view scope s u else Done s nothing) (if view'.decide p s scope' f then ends inputs' view' scope' s u else Done s nothing)
     when_agree vs low scope scope' s p f u g g' true e e' b y =
-        let i = y (record { each = λ q l m. g.each q (omega arith) (omega arith) ∙ ap (λ c. if c then fate inputs view scope s u q else Lost) e })
+        let part = y (record { each = λ q l m. g.each q (omega arith) (omega arith) ∙ ap (λ c. if c then fate inputs view scope s u q else Lost) e })
         (record { each = λ q l m. g'.each q (omega arith) (omega arith) ∙ ap (λ c. if c then fate inputs' view' scope' s u q else Lost) e' }) b in
-        ((λ q l m. i.0 q l (omega arith)), rw (e, e') i.1)
+        ((λ q l m. part.0 q l (omega arith)), rw (e, e') part.1)
     when_agree vs low scope scope' s p f u g g' false e e' b y = (
       lost_both (low + 1) (low + (1 + size u)) (λ q l m. g.each q (omega arith) (omega arith) ∙ ap (λ c. if c then fate inputs view scope s u q else Lost) e) (λ q l m. g'.each q (omega arith) (omega arith) ∙ ap (λ c. if c then fate inputs' view' scope' s u q else Lost) e'),
       rw (e, e') (same_refl t (Done s nothing)),
@@ -212,46 +212,46 @@ module _ (t : ℕ) (inputs inputs' : Inputs) (view view' : Sees) (run run' : ℕ
       pub agree : (vs : List Act) (low : ℕ) (scope scope' : ℕ → Outcome) (s : ℕ) (u : Term) → Numbered vs low u → s ≤ t → Agrees run (fate inputs view scope s u) low (low + size u) → Agrees run' (fate inputs' view' scope' s u) low (low + size u) → SameScope t scope scope' → SameBefore low
           → Within low (low + size u) × SameTo t (ends inputs view scope s u) (ends inputs' view' scope' s u)
       agree vs low scope scope' s (One a) n l g g' k b =
-          let e = runs_here inputs view run vs low scope s (One a) n g in
+          let by_runs_here = runs_here inputs view run vs low scope s (One a) n g in
           let e' = runs_here inputs' view' run' vs low scope' s (One a) n g' in
-          let f = own low scope scope' s (One a) e e' k in
-          let z = act_agree vs low scope scope' s a n l (one_inner inputs view run vs low scope s a n g) (one_inner inputs' view' run' vs low scope' s a n g') (One a) refl e e' k b (one_more low b f) in
-          (first_then low (low + act_size a) f z.0, z.1)
+          let by_own = own low scope scope' s (One a) by_runs_here e' k in
+          let by_act_agree = act_agree vs low scope scope' s a n l (one_inner inputs view run vs low scope s a n g) (one_inner inputs' view' run' vs low scope' s a n g') (One a) refl by_runs_here e' k b (one_more low b by_own) in
+          (first_then low (low + act_size a) by_own by_act_agree.0, by_act_agree.1)
       agree vs low scope scope' s (Then a u) n l g g' k b =
-          let p : 0 < act_size a = act_size_positive a in
-          let e = runs_here inputs view run vs low scope s (Then a u) n g in
+          let is_less : 0 < act_size a = act_size_positive a in
+          let next_by_runs_here = runs_here inputs view run vs low scope s (Then a u) n g in
           let e' = runs_here inputs' view' run' vs low scope' s (Then a u) n g' in
-          let f = own low scope scope' s (Then a u) e e' k in
-          let z = act_agree vs low scope scope' s a n.0 l (then_inner inputs view run vs low scope s a u n g) (then_inner inputs' view' run' vs low scope' s a u n g') (Then a u) refl e e' k b (one_more low b f) in
-          let w = first_then low (low + act_size a) f z.0 in
-          let y = then_agree vs low scope scope' s a u n g g' k z.1 (λ d d' c m r r' i. agree (a ∷ vs) (low + act_size a) d d' c u n.1 m r r' i (together low (low + act_size a) b w)) in
-          ((λ q i j. seam low (low + act_size a) (low + act_size a + size u) w y.0 q i (omega arith)), y.1)
+          let next_by_own = own low scope scope' s (Then a u) next_by_runs_here e' k in
+          let next_by_act_agree = act_agree vs low scope scope' s a n.0 l (then_inner inputs view run vs low scope s a u n g) (then_inner inputs' view' run' vs low scope' s a u n g') (Then a u) refl next_by_runs_here e' k b (one_more low b next_by_own) in
+          let by_first_then = first_then low (low + act_size a) next_by_own next_by_act_agree.0 in
+          let by_then_agree = then_agree vs low scope scope' s a u n g g' k next_by_act_agree.1 (λ d d' c m r r' i. agree (a ∷ vs) (low + act_size a) d d' c u n.1 m r r' i (together low (low + act_size a) b by_first_then)) in
+          ((λ q i j. seam low (low + act_size a) (low + act_size a + size u) by_first_then by_then_agree.0 q i (omega arith)), by_then_agree.1)
       agree vs low scope scope' s (Both a u) n l g g' k b =
-          let p : 0 < act_size a = act_size_positive a in
-          let e = runs_here inputs view run vs low scope s (Both a u) n g in
+          let next_is_less : 0 < act_size a = act_size_positive a in
+          let last_by_runs_here = runs_here inputs view run vs low scope s (Both a u) n g in
           let e' = runs_here inputs' view' run' vs low scope' s (Both a u) n g' in
-          let f = own low scope scope' s (Both a u) e e' k in
-          let z = act_agree vs low scope scope' s a n.0 l (both_inner inputs view run vs low scope s a u n g) (both_inner inputs' view' run' vs low scope' s a u n g') (Both a u) refl e e' k b (one_more low b f) in
-          let w = first_then low (low + act_size a) f z.0 in
-          let y = agree (a ∷ vs) (low + act_size a) (bind scope (site a) (act_ends inputs view scope s a)) (bind scope' (site a) (act_ends inputs' view' scope' s a)) s u n.1 l (both_rest inputs view run vs low scope s a u n g) (both_rest inputs' view' run' vs low scope' s a u n g') (same_bind (site a) k z.1) (together low (low + act_size a) b w) in (
-            (λ q i j. seam low (low + act_size a) (low + act_size a + size u) w y.0 q i (omega arith)),
-            record { there = later_there t _ _ _ _ z.1.there y.1.there; back = later_there t _ _ _ _ z.1.back y.1.back },
+          let last_by_own = own low scope scope' s (Both a u) last_by_runs_here e' k in
+          let by_act_agree = act_agree vs low scope scope' s a n.0 l (both_inner inputs view run vs low scope s a u n g) (both_inner inputs' view' run' vs low scope' s a u n g') (Both a u) refl last_by_runs_here e' k b (one_more low b last_by_own) in
+          let next_by_first_then = first_then low (low + act_size a) last_by_own by_act_agree.0 in
+          let by_agree = agree (a ∷ vs) (low + act_size a) (bind scope (site a) (act_ends inputs view scope s a)) (bind scope' (site a) (act_ends inputs' view' scope' s a)) s u n.1 l (both_rest inputs view run vs low scope s a u n g) (both_rest inputs' view' run' vs low scope' s a u n g') (same_bind (site a) k by_act_agree.1) (together low (low + act_size a) b next_by_first_then) in (
+            (λ q i j. seam low (low + act_size a) (low + act_size a + size u) next_by_first_then by_agree.0 q i (omega arith)),
+            record { there = later_there t _ _ _ _ by_act_agree.1.there by_agree.1.there; back = later_there t _ _ _ _ by_act_agree.1.back by_agree.1.back },
           )
 
       pub act_agree : (vs : List Act) (low : ℕ) (scope scope' : ℕ → Outcome) (s : ℕ) (a : Act) → NumberedAct vs low a → s ≤ t → Agrees run (inside inputs view scope s a) (low + 1) (low + act_size a) → Agrees run' (inside inputs' view' scope' s a) (low + 1) (low + act_size a)
           → (w : Term) → head w ≡ a → run low ≡ Runs scope s w → run' low ≡ Runs scope' s w → SameScope t scope scope' → SameBefore low → SameBefore (low + 1)
           → Within (low + 1) (low + act_size a) × SameTo t (act_ends inputs view scope s a) (act_ends inputs' view' scope' s a)
       act_agree vs low scope scope' s (If p f u v d) n l g g' w i e e' k b b' =
-          let c = alike_at low p s scope scope' w (If p f u v d) f n.0 e e' i refl l k b in
-          let z = if_agree vs low scope scope' s p f u v d n g g' (view.decide p s scope f) true refl (sym c) b' (λ r r' o. agree vs (low + 1) scope scope' s u n.1 l r r' k o) (λ r r' o. agree vs (low + (1 + size u)) scope scope' s v n.2 l r r' k o) in
-          (z.0, decided_same d p s _ _ z.1)
+          let by_alike_at = alike_at low p s scope scope' w (If p f u v d) f n.0 e e' i refl l k b in
+          let by_if_agree = if_agree vs low scope scope' s p f u v d n g g' (view.decide p s scope f) true refl (sym by_alike_at) b' (λ r r' o. agree vs (low + 1) scope scope' s u n.1 l r r' k o) (λ r r' o. agree vs (low + (1 + size u)) scope scope' s v n.2 l r r' k o) in
+          (by_if_agree.0, decided_same d p s _ _ by_if_agree.1)
       act_agree vs low scope scope' s (When p f u) n l g g' w i e e' k b b' =
-          let c = alike_at low p s scope scope' w (When p f u) f n.0 e e' i refl l k b in
-          let z = when_agree vs low scope scope' s p f u g g' (view.decide p s scope f) refl (sym c) b' (λ r r' o. agree vs (low + 1) scope scope' s u n.1 l r r' k o) in
-          (z.0, decided_same false p s _ _ z.1)
+          let next_by_alike_at = alike_at low p s scope scope' w (When p f u) f n.0 e e' i refl l k b in
+          let by_when_agree = when_agree vs low scope scope' s p f u g g' (view.decide p s scope f) refl (sym next_by_alike_at) b' (λ r r' o. agree vs (low + 1) scope scope' s u n.1 l r r' k o) in
+          (by_when_agree.0, decided_same false p s _ _ by_when_agree.1)
       act_agree vs low scope scope' s (Block p u) n l g g' w i e e' k b b' =
-          let z = agree vs (low + 1) scope scope' s u n.1 l (block_in inputs view run low scope s p u g) (block_in inputs' view' run' low scope' s p u g') k b' in
-          ((λ q y m. z.0 q y (omega arith)), z.1)
+          let by_agree = agree vs (low + 1) scope scope' s u n.1 l (block_in inputs view run low scope s p u g) (block_in inputs' view' run' low scope' s p u g') k b' in
+          ((λ q y m. by_agree.0 q y (omega arith)), by_agree.1)
       act_agree vs low scope scope' s (Cycle p m) n l g g' w i e e' k b b' = ((λ q y m. absurd (omega arith)), same_refl t _)
       act_agree vs low scope scope' s (Set p r f) n l g g' w i e e' k b b' = ((λ q y m. absurd (omega arith)), same_refl t _)
       act_agree vs low scope scope' s (Send p m f) n l g g' w i e e' k b b' = (

@@ -32,23 +32,23 @@ module _ (inputs : Inputs) (view : Sees) where
   mutual
     pub out : (vs : List Act) (low : ℕ) (scope : ℕ → Outcome) (s : ℕ) (t : Term) (q : ℕ) → Numbered vs low t → low + size t ≤ q → NotRuns (fate inputs view scope s t q)
     out vs low scope s (One a) q n l =
-        let p : 0 < act_size a = act_size_positive a in
-        let i : site a ≡ low = act_site vs low a n in
+        let is_less : 0 < act_size a = act_size_positive a in
+        let equal : site a ≡ low = act_site vs low a n in
         rw (pick_ne q (site a) (Runs scope s (One a)) (inside inputs view scope s a q) (λ e. omega arith)) (act_out vs low scope s a q n l)
     out vs low scope s (Then a t) q n l =
-        let p : 0 < act_size a = act_size_positive a in
-        let m : site (head t) ≡ low + act_size a = head_site _ _ t n.1 in
+        let next_is_less : 0 < act_size a = act_size_positive a in
+        let next_equal : site (head t) ≡ low + act_size a = head_site _ _ t n.1 in
         rw (pick_ge q (site (head t)) (if q == site a then Runs scope s (Then a t) else inside inputs view scope s a q) (once inputs (act_ends inputs view scope s a) (λ c v. fate inputs view (bind scope (site a) (Done c v)) c t q)) (omega arith))
         (once_out (act_ends inputs view scope s a) _ (λ c v. out (a ∷ vs) (low + act_size a) (bind scope (site a) (Done c v)) c t q n.1 (omega arith)))
     out vs low scope s (Both a t) q n l =
-        let p : 0 < act_size a = act_size_positive a in
-        let m : site (head t) ≡ low + act_size a = head_site _ _ t n.1 in
+        let last_is_less : 0 < act_size a = act_size_positive a in
+        let last_equal : site (head t) ≡ low + act_size a = head_site _ _ t n.1 in
         rw (pick_ge q (site (head t)) (if q == site a then Runs scope s (Both a t) else inside inputs view scope s a q) (fate inputs view (bind scope (site a) (act_ends inputs view scope s a)) s t q) (omega arith))
         (out (a ∷ vs) (low + act_size a) (bind scope (site a) (act_ends inputs view scope s a)) s t q n.1 (omega arith))
 
     pub act_out : (vs : List Act) (low : ℕ) (scope : ℕ → Outcome) (s : ℕ) (a : Act) (q : ℕ) → NumberedAct vs low a → low + act_size a ≤ q → NotRuns (inside inputs view scope s a q)
     act_out vs low scope s (If p e t u w) q n l =
-        let m : site (head u) ≡ low + (1 + size t) = head_site _ _ u n.2 in
+        let equal : site (head u) ≡ low + (1 + size t) = head_site _ _ u n.2 in
         rw (pick_ge q (site (head u)) (if view.decide p s scope e then fate inputs view scope s t q else Lost) (if view.decide p s scope e then Lost else fate inputs view scope s u q) (omega arith))
         (either (view.decide p s scope e) _ _ tt (out vs (low + (1 + size t)) scope s u q n.2 (omega arith)))
     act_out vs low scope s (When p e t) q n l = either (view.decide p s scope e) _ _ (out vs (low + 1) scope s t q n.1 (omega arith)) tt
@@ -74,7 +74,7 @@ pub below_none : (n : ℕ) → Below n []
 below_none n = record { each = λ b k. elim k [ ] }
 
 below_up : {n : ℕ} {from_sources : List Source} (m : ℕ) → n ≤ m → Below n from_sources → Below m from_sources
-below_up m l k = record { each = λ b i. let z = k.each b i in omega arith }
+below_up m l k = record { each = λ b i. let by_each = k.each b i in omega arith }
 
 below_append : (n : ℕ) (from_sources rest : List Source) → Below n from_sources → Below n rest → Below n (from_sources ++ rest)
 below_append n [] rest k l = l
@@ -143,9 +143,9 @@ mutual
       below_up (low + size (Both a t)) (omega arith) (below (a ∷ vs) (low + act_size a) _ t n.1 (bind_below low (low + act_size a) (site a) known_sources _ (omega arith) k (act_below vs low known_sources a n.0 k)))
 
   pub act_below : (vs : List Act) (low : ℕ) (known_sources : ℕ → List Source) (a : Act) → NumberedAct vs low a → AllBelow low known_sources → Below (low + act_size a) (act_sources known_sources a)
-  act_below vs low known_sources (Recv p m) n k = let z : p ≡ low = n in below_one (low + 1) (WireOf p) (omega arith)
+  act_below vs low known_sources (Recv p m) n k = let equal : p ≡ low = n in below_one (low + 1) (WireOf p) (omega arith)
   act_below vs low known_sources (If p e t u true) n k =
-      let z : p ≡ low = n.0 in
+      let next_equal : p ≡ low = n.0 in
       below_append (low + (1 + (size t + size u))) (ChoiceOf p ∷ []) (sources known_sources t ++ sources known_sources u) (below_one _ (ChoiceOf p) (omega arith))
       (below_append _ (sources known_sources t) (sources known_sources u)
       (below_up _ (omega arith) (below vs (low + 1) known_sources t n.1 (λ y. below_up (low + 1) (omega arith) (k y))))
@@ -153,7 +153,7 @@ mutual
   act_below vs low known_sources (If p e t u false) n k = below_none _
   act_below vs low known_sources (Block p t) n k = below_up (low + (1 + size t)) (omega arith) (below vs (low + 1) known_sources t n.1 (λ y. below_up (low + 1) (omega arith) (k y)))
   act_below vs low known_sources (Wait p y) n k = below_up (low + 1) (omega arith) (k y)
-  act_below vs low known_sources (Pure p e) n k = let z : p ≡ low = n.0 in expr_below (low + 1) p known_sources e (omega arith) (λ y. below_up (low + 1) (omega arith) (k y))
+  act_below vs low known_sources (Pure p e) n k = let last_equal : p ≡ low = n.0 in expr_below (low + 1) p known_sources e (omega arith) (λ y. below_up (low + 1) (omega arith) (k y))
   act_below vs low known_sources (Cycle p m) n k = below_none _
   act_below vs low known_sources (Set p r e) n k = below_none _
   act_below vs low known_sources (Send p m e) n k = below_none _

@@ -24,9 +24,9 @@ module _ (t : ℕ) (w w' : Wires) (there : (n c : ℕ) → c < t → Exchange w 
     where
       go : (b : Bool) → nat_lt s u ≡ b → w'.data_at m u ≡ w'.data_at m s
       go true f =
-          let z : s < u = grind (arith, nat_tests) in
+          let is_less : s < u = grind (arith, nat_tests) in
           same u ∙ (kept s u (back m s (omega arith) e) l (i.0, within_same life s u l i.1) ∙ sym (same s))
-      go false f = let z : u ≤ s = grind (arith, nat_tests) in let y : s ≤ u = i.0 in let v : u ≡ s = omega arith in ap (w'.data_at m) v
+      go false f = let at_most : u ≤ s = grind (arith, nat_tests) in let next_at_most : s ≤ u = i.0 in let equal : u ≡ s = omega arith in ap (w'.data_at m) equal
 
 module _ (p : Process) (process : IsProcess p) (accepted : KeepsDemands p) (inputs : Inputs) (registers : ℕ → ℕ → ℕ) (history : IsHistory p inputs registers) (run : Reread) (again : IsReread p inputs run)
     (t : ℕ) (short : t < inputs.count) (earlier : (s : ℕ) → s < t → (m : ℕ) → is_received p m ≡ true → IsKept (wires p inputs registers) (life_of p m) m s) where
@@ -37,10 +37,10 @@ module _ (p : Process) (process : IsProcess p) (accepted : KeepsDemands p) (inpu
   there n c l e = (rw again.long e.0, sym ((alike c l).valid n) ∙ e.1, sym ((alike c l).ack n) ∙ e.2)
 
   back : (n c : ℕ) → c < t → Exchange run.wires n c → Exchange (wires p inputs registers) n c
-  back n c l e = (let z = e.0 in rw again.long at z, (alike c l).valid n ∙ e.1, (alike c l).ack n ∙ e.2)
+  back n c l e = (let part = e.0 in rw again.long at part, (alike c l).valid n ∙ e.1, (alike c l).ack n ∙ e.2)
 
   data_same : (m : ℕ) → is_received p m ≡ true → (c : ℕ) → run.wires.data_at m c ≡ data_wire p inputs registers m c
-  data_same m side c = let z : data_wire p inputs registers m c ≡ inputs.data_at m c = rw side refl in again.data_in m c side ∙ sym z
+  data_same m side c = let next_equal : data_wire p inputs registers m c ≡ inputs.data_at m c = rw side refl in again.data_in m c side ∙ sym next_equal
 
   pub breaks_alike : (m : ℕ) → is_received p m ≡ true → (IsKept (wires p inputs registers) (life_of p m) m t → IsKept run.wires (life_of p m) m t) × (IsKept run.wires (life_of p m) m t → IsKept (wires p inputs registers) (life_of p m) m t)
   breaks_alike m side = (

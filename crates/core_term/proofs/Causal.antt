@@ -61,30 +61,30 @@ read_same t s Open Open l k = refl
 read_same t s Open (Done e v) l k = go (nat_le e s) refl
   where
     go : (b : Bool) → nat_le e s ≡ b → nothing ≡ (if b then v else nothing)
-    go true f = let m : e ≤ s = grind (arith, nat_tests) in let c : Open ≡ Done e v = k.back e v (omega arith) refl in absurd cc
+    go true f = let at_most : e ≤ s = grind (arith, nat_tests) in let equal : Open ≡ Done e v = k.back e v (omega arith) refl in absurd cc
     go false f = refl
 read_same t s (Done e v) Open l k = go (nat_le e s) refl
   where
     go : (b : Bool) → nat_le e s ≡ b → (if b then v else nothing) ≡ nothing
-    go true f = let m : e ≤ s = grind (arith, nat_tests) in let c : Open ≡ Done e v = k.there e v (omega arith) refl in absurd cc
+    go true f = let next_at_most : e ≤ s = grind (arith, nat_tests) in let next_equal : Open ≡ Done e v = k.there e v (omega arith) refl in absurd cc
     go false f = refl
 read_same t s (Done e v) (Done e' v') l k = go (nat_le e s) refl (nat_le e' s) refl
   where
     go : (b : Bool) → nat_le e s ≡ b → (b' : Bool) → nat_le e' s ≡ b' → (if b then v else nothing) ≡ (if b' then v' else nothing)
     go true f b' f' =
-        let m : e ≤ s = grind (arith, nat_tests) in
-        let c : Done e' v' ≡ Done e v = k.there e v (omega arith) refl in
-        let i : e' ≡ e = cc in
-        let j : v' ≡ v = cc in
-        let n : nat_le e' s ≡ true = rw i f in
-        let b_is : b' ≡ true = sym f' ∙ n in
-        rw (b_is, j) refl
+        let last_at_most : e ≤ s = grind (arith, nat_tests) in
+        let last_equal : Done e' v' ≡ Done e v = k.there e v (omega arith) refl in
+        let other_equal : e' ≡ e = cc in
+        let more_equal : v' ≡ v = cc in
+        let decided : nat_le e' s ≡ true = rw other_equal f in
+        let b_is : b' ≡ true = sym f' ∙ decided in
+        rw (b_is, more_equal) refl
     go false f true f' =
-        let m : e' ≤ s = grind (arith, nat_tests) in
-        let c : Done e v ≡ Done e' v' = k.back e' v' (omega arith) refl in
-        let i : e ≡ e' = cc in
-        let n : nat_le e s ≡ true = rw i f' in
-        let d : true ≡ false = sym n ∙ f in absurd cc
+        let other_at_most : e' ≤ s = grind (arith, nat_tests) in
+        let further_equal : Done e v ≡ Done e' v' = k.back e' v' (omega arith) refl in
+        let second_equal : e ≡ e' = cc in
+        let next_decided : nat_le e s ≡ true = rw second_equal f' in
+        let last_decided : true ≡ false = sym next_decided ∙ f in absurd cc
     go false f false f' = refl
 
 pub value_same : (t : ℕ) (registers registers' : ℕ → ℕ → ℕ) (scope scope' : ℕ → Outcome) (s : ℕ) → ((r : ℕ) → registers s r ≡ registers' s r) → s ≤ t → SameScope t scope scope' → (e : Expr) → value registers scope s e ≡ value registers' scope' s e
@@ -102,8 +102,8 @@ first_from wire s zero u e = absurd cc
 first_from wire s (suc n) u e = go (wire s) refl (first_from wire (s + 1) n u)
   where
     go : (b : Bool) → wire s ≡ b → (first wire (s + 1) n ≡ Some u → s + 1 ≤ u) → s ≤ u
-    go true f k = let g : Some s ≡ Some u = rw f at e in let k : s ≡ u = cc in omega arith
-    go false f k = let g : first wire (s + 1) n ≡ Some u = rw f at e in let l = k g in omega arith
+    go true f k = let equal : Some s ≡ Some u = rw f at e in let next_equal : s ≡ u = cc in omega arith
+    go false f k = let last_equal : first wire (s + 1) n ≡ Some u = rw f at e in let part = k last_equal in omega arith
 
 first_same : (wire wire' : ℕ → Bool) (s n n' u : ℕ) → first wire s n ≡ Some u → ((w : ℕ) → w ≤ u → wire w ≡ wire' w) → u < s + n' → s ≤ u → first wire' s n' ≡ Some u
 first_same wire wire' s zero n' u e k l m = absurd cc
@@ -111,11 +111,11 @@ first_same wire wire' s (suc n) zero u e k l m = absurd (omega arith)
 first_same wire wire' s (suc n) (suc n') u e k l m = go (wire s) refl (first_same wire wire' (s + 1) n n' u)
   where
     go : (b : Bool) → wire s ≡ b → (first wire (s + 1) n ≡ Some u → ((w : ℕ) → w ≤ u → wire w ≡ wire' w) → u < s + 1 + n' → s + 1 ≤ u → first wire' (s + 1) n' ≡ Some u) → (if wire' s then Some s else first wire' (s + 1) n') ≡ Some u
-    go true f i = let g : Some s ≡ Some u = rw f at e in rw (← k s m, f) g
+    go true f i = let other_equal : Some s ≡ Some u = rw f at e in rw (← k s m, f) other_equal
     go false f i =
-        let g : first wire (s + 1) n ≡ Some u = rw f at e in
-        let q : s + 1 ≤ u = first_from wire (s + 1) n u g in
-        rw (← k s m, f) (i g k (omega arith) q)
+        let more_equal : first wire (s + 1) n ≡ Some u = rw f at e in
+        let at_most : s + 1 ≤ u = first_from wire (s + 1) n u more_equal in
+        rw (← k s m, f) (i more_equal k (omega arith) at_most)
 
 pub found_there : (t : ℕ) (wire wire' : ℕ → Bool) (s c c' : ℕ) (f f' : ℕ → Value) → t < c' → s ≤ t → ((w : ℕ) → w ≤ t → wire w ≡ wire' w) → ((w : ℕ) → w ≤ t → f w ≡ f' w) → (e : ℕ) (v : Value) → e ≤ t → found (first wire s (c - s)) f ≡ Done e v → found (first wire' s (c' - s)) f' ≡ Done e v
 found_there t wire wire' s c c' f f' l m k k' e v n q = go (first wire s (c - s)) refl q
@@ -123,28 +123,28 @@ found_there t wire wire' s c c' f f' l m k k' e v n q = go (first wire s (c - s)
     go : (r : Option ℕ) → first wire s (c - s) ≡ r → found r f ≡ Done e v → found (first wire' s (c' - s)) f' ≡ Done e v
     go None r i = absurd cc
     go (Some u) r i =
-        let j : u ≡ e = cc in
-        let b : s ≤ u = first_from wire s (c - s) u r in
-        let z : first wire' s (c' - s) ≡ Some u = first_same wire wire' s (c - s) (c' - s) u r (λ w y. k w (omega arith)) (omega arith) b in
-        rw z (rw (← k' u (omega arith)) i)
+        let equal : u ≡ e = cc in
+        let next_at_most : s ≤ u = first_from wire s (c - s) u r in
+        let next_equal : first wire' s (c' - s) ≡ Some u = first_same wire wire' s (c - s) (c' - s) u r (λ w y. k w (omega arith)) (omega arith) next_at_most in
+        rw next_equal (rw (← k' u (omega arith)) i)
 
 pub decided_there : (t : ℕ) (w : Bool) (p s : ℕ) (o o' : Outcome) → ((e : ℕ) (v : Value) → e ≤ t → o ≡ Done e v → o' ≡ Done e v) → (e : ℕ) (v : Value) → e ≤ t → decided w p s o ≡ Done e v → decided w p s o' ≡ Done e v
 decided_there t w p s Open o' k e v l q = absurd cc
-decided_there t true p s (Done a b) o' k e v l q = let j : a ≡ e = cc in ap (decided true p s) (k a b (omega arith) refl) ∙ q
-decided_there t false p s (Done a b) o' k e v l q = let j : a ≡ e = cc in ap (decided false p s) (k a b (omega arith) refl) ∙ q
+decided_there t true p s (Done a b) o' k e v l q = let last_equal : a ≡ e = cc in ap (decided true p s) (k a b (omega arith) refl) ∙ q
+decided_there t false p s (Done a b) o' k e v l q = let other_equal : a ≡ e = cc in ap (decided false p s) (k a b (omega arith) refl) ∙ q
 
 pub waited_there : (t s : ℕ) (o o' : Outcome) → SameTo t o o' → (e : ℕ) (v : Value) → e ≤ t → waited s o ≡ Done e v → waited s o' ≡ Done e v
 waited_there t s Open o' k e v l q = absurd cc
-waited_there t s (Done a b) o' k e v l q = let j : max s a ≡ e = cc in ap (waited s) (k.there a b (omega arith) refl) ∙ q
+waited_there t s (Done a b) o' k e v l q = let more_equal : max s a ≡ e = cc in ap (waited s) (k.there a b (omega arith) refl) ∙ q
 
 pub later_there : (t : ℕ) (r u r' u' : Outcome) → ((e : ℕ) (v : Value) → e ≤ t → r ≡ Done e v → r' ≡ Done e v) → ((e : ℕ) (v : Value) → e ≤ t → u ≡ Done e v → u' ≡ Done e v) → (e : ℕ) (v : Value) → e ≤ t → later r u ≡ Done e v → later r' u' ≡ Done e v
 later_there t Open u r' u' k k' e v l q = absurd cc
 later_there t (Done a b) Open r' u' k k' e v l q = absurd cc
-later_there t (Done a b) (Done c d) r' u' k k' e v l q = let j : max a c ≡ e = cc in rw (k a b (omega arith) refl, k' c d (omega arith) refl) q
+later_there t (Done a b) (Done c d) r' u' k k' e v l q = let equal : max a c ≡ e = cc in rw (k a b (omega arith) refl, k' c d (omega arith) refl) q
 
 not_before : (c : ℕ) (o : Outcome) (e : ℕ) (v : Value) → NotBefore c o → o ≡ Done e v → c ≤ e
 not_before c Open e v k q = absurd cc
-not_before c (Done a b) e v k q = let j : a ≡ e = cc in omega arith
+not_before c (Done a b) e v k q = let next_equal : a ≡ e = cc in omega arith
 
 chain_there : (t : ℕ) (inputs inputs' : Inputs) (r r' : Outcome) (k k' : ℕ → Value → Outcome) → t < inputs'.count → ((e : ℕ) (v : Value) → e ≤ t → r ≡ Done e v → r' ≡ Done e v) → ((c : ℕ) (w : Value) → NotBefore c (k c w))
     → ((c : ℕ) (w : Value) → c ≤ t → (e : ℕ) (v : Value) → e ≤ t → k c w ≡ Done e v → k' c w ≡ Done e v) → (e : ℕ) (v : Value) → e ≤ t → after_end inputs r k ≡ Done e v → after_end inputs' r' k' ≡ Done e v
@@ -153,9 +153,9 @@ chain_there t inputs inputs' (Done c w) r' k k' m f from g e v l q = go (nat_lt 
   where
     go : (b : Bool) → (if b then k c w else Open) ≡ Done e v → after_end inputs' r' k' ≡ Done e v
     go true i =
-        let n : c ≤ e = not_before c (k c w) e v (from c w) i in
-        let z : nat_lt c inputs'.count ≡ true = grind (arith, nat_tests) in
-        rw (f c w (omega arith) refl, z) (g c w (omega arith) e v l i)
+        let at_most : c ≤ e = not_before c (k c w) e v (from c w) i in
+        let decided : nat_lt c inputs'.count ≡ true = grind (arith, nat_tests) in
+        rw (f c w (omega arith) refl, decided) (g c w (omega arith) e v l i)
     go false i = absurd cc
 
 pick_there : (t : ℕ) (c : Bool) (o u o' u' : Outcome) → ((e : ℕ) (v : Value) → e ≤ t → o ≡ Done e v → o' ≡ Done e v) → ((e : ℕ) (v : Value) → e ≤ t → u ≡ Done e v → u' ≡ Done e v)
@@ -223,7 +223,7 @@ lost_late t scope s u e l = cc
 pub late_from : (t c : ℕ) (f : Fate) → t < c → BeginsFrom c f → Late t f
 late_from t c Waits k l scope s u e m = cc
 late_from t c Lost k l scope s u e m = cc
-late_from t c (Runs scope' b v) k l scope s u e m = let z : b ≡ s = cc in omega arith
+late_from t c (Runs scope' b v) k l scope s u e m = let equal : b ≡ s = cc in omega arith
 
 scope_of : (ℕ → Outcome) → Fate → ℕ → Outcome
 scope_of otherwise Waits = otherwise
@@ -233,8 +233,8 @@ scope_of otherwise (Runs scope s u) = scope
 runs_same : {t : ℕ} (scope scope' : ℕ → Outcome) (s : ℕ) (u : Term) → SameScope t scope scope' → SameFate t (Runs scope s u) (Runs scope' s u)
 unfolding scope_of
 runs_same {t = t} scope scope' s u k = record {
-  there = λ scope'' b v e l. (scope', let i : s ≡ b = cc in let j : u ≡ v = cc in rw (i, j) refl, subst (λ z. SameScope t z scope') (ap (scope_of scope) e) k);
-  back = λ scope'' b v e l. (scope, let i : s ≡ b = cc in let j : u ≡ v = cc in rw (i, j) refl, subst (λ z. SameScope t scope z) (ap (scope_of scope') e) k);
+  there = λ scope'' b v e l. (scope', let next_equal : s ≡ b = cc in let last_equal : u ≡ v = cc in rw (next_equal, last_equal) refl, subst (λ z. SameScope t z scope') (ap (scope_of scope) e) k);
+  back = λ scope'' b v e l. (scope, let other_equal : s ≡ b = cc in let more_equal : u ≡ v = cc in rw (other_equal, more_equal) refl, subst (λ z. SameScope t scope z) (ap (scope_of scope') e) k);
 }
 
 pick_same : {t : ℕ} (b : Bool) (f g f' g' : Fate) → SameFate t f f' → SameFate t g g' → SameFate t (if b then f else g) (if b then f' else g')
@@ -251,16 +251,16 @@ by_when t Open = not_by (λ c v e l. cc)
 by_when t (Done a v) = go (nat_le a t) refl
   where
     go : (b : Bool) → nat_le a t ≡ b → By t (Done a v)
-    go true e = let k : a ≤ t = grind (arith, nat_tests) in by a v refl k
-    go false e = let k : t < a = grind (arith, nat_tests) in not_by (λ c w f l. let z : a ≡ c = cc in omega arith)
+    go true e = let at_most : a ≤ t = grind (arith, nat_tests) in by a v refl at_most
+    go false e = let is_less : t < a = grind (arith, nat_tests) in not_by (λ c w f l. let equal : a ≡ c = cc in omega arith)
 
 once_late : (t : ℕ) (inputs : Inputs) (o : Outcome) (k : ℕ → Value → Fate) → ((c : ℕ) (v : Value) → o ≡ Done c v → c ≤ t → ⊥) → ((c : ℕ) (v : Value) → BeginsFrom c (k c v)) → Late t (once inputs o k)
 once_late t inputs Open k f from = waits_late t
 once_late t inputs (Done c v) k f from = go (nat_lt c inputs.count) (nat_le c t) refl
   where
     go : (b d : Bool) → nat_le c t ≡ d → Late t (if b then k c v else Waits)
-    go true true e = let l : c ≤ t = grind (arith, nat_tests) in λ scope s u i m. f c v refl l
-    go true false e = let l : t < c = grind (arith, nat_tests) in late_from t c (k c v) l (from c v)
+    go true true e = let next_at_most : c ≤ t = grind (arith, nat_tests) in λ scope s u i m. f c v refl next_at_most
+    go true false e = let next_is_less : t < c = grind (arith, nat_tests) in late_from t c (k c v) next_is_less (from c v)
     go false d e = waits_late t
 
 module _ (t : ℕ) (x x' : Inputs) (h h' : Sees) (a : Alike t x x' h h') where
@@ -273,9 +273,9 @@ module _ (t : ℕ) (x x' : Inputs) (h h' : Sees) (a : Alike t x x' h h') where
       go (by c v e l) =
           let lx : t < x.count = a.long in
           let lx' : t < x'.count = a.long' in
-          let i : nat_lt c x.count ≡ true = grind (arith, nat_tests) in
+          let decided : nat_lt c x.count ≡ true = grind (arith, nat_tests) in
           let i' : nat_lt c x'.count ≡ true = grind (arith, nat_tests) in
-          rw (e, same.there c v l e, i, i') (each c v l)
+          rw (e, same.there c v l e, decided, i') (each c v l)
 
   mutual
     pub fate_same : (scope scope' : ℕ → Outcome) (s : ℕ) → s ≤ t → SameScope t scope scope' → (u : Term) (q : ℕ) → SameFate t (fate x h scope s u q) (fate x' h' scope' s u q)

@@ -26,9 +26,9 @@ greatest_only f (suc n) i a l k g = go (f n) refl (λ m. greatest_only f n i a m
     go None e r = at (nat_lt i n) refl
       where
         at : (b : Bool) → nat_lt i n ≡ b → greatest f n ≡ Some a
-        at true z = let m : i < n = grind (arith, nat_tests) in r m
-        at false z = let m : n ≤ i = grind (arith, nat_tests) in let m' : n ≡ i = omega arith in let y : None ≡ Some a = sym e ∙ (ap f m' ∙ k) in absurd cc
-    go (Some b) e r = let z : n ≡ i = g n b e in sym e ∙ (ap f z ∙ k)
+        at true z = let is_less : i < n = grind (arith, nat_tests) in r is_less
+        at false z = let at_most : n ≤ i = grind (arith, nat_tests) in let equal : n ≡ i = omega arith in let none_is_some : None ≡ Some a = sym e ∙ (ap f equal ∙ k) in absurd cc
+    go (Some b) e r = let same_turn : n ≡ i = g n b e in sym e ∙ (ap f same_turn ∙ k)
 
 -- two turns that begin the same place in the same cycle are one
 pub one_turn : (inputs : Inputs) (body : Term) (numbered : Numbered [] 0 body) → IsTail body → (g : Sees) (i j q : ℕ) (scope scope' : ℕ → Outcome) (s : ℕ) (u u' : Term) → run_of inputs g body i q ≡ Runs scope s u → run_of inputs g body j q ≡ Runs scope' s u' → i ≡ j
@@ -36,10 +36,10 @@ one_turn inputs body numbered tail g i j q scope scope' s u u' e e' = go (turns 
   where
     late : (a b k : ℕ) (scope scope' : ℕ → Outcome) (u u' : Term) → b ≡ suc (k + a) → run_of inputs g body a q ≡ Runs scope s u → run_of inputs g body b q ≡ Runs scope' s u' → ⊥
     late a b k scope scope' u u' z e e' =
-        let o = some_start inputs g body numbered (begins inputs g body b) q scope' s u' e' in
-        let P : ℕ → Type 0 = λ n. begins inputs g body n ≡ Some o.0 in
-        let y = strictly inputs body numbered tail g a k q scope s u e o.0 (subst P z o.1) in
-        let w = begin_since inputs g body numbered (begins inputs g body b) o.0 q s o.1 (ap begin_at e') in omega arith
+        let start = some_start inputs g body numbered (begins inputs g body b) q scope' s u' e' in
+        let Statement : ℕ → Type 0 = λ n. begins inputs g body n ≡ Some start.0 in
+        let before = strictly inputs body numbered tail g a k q scope s u e start.0 (subst Statement z start.1) in
+        let since = begin_since inputs g body numbered (begins inputs g body b) start.0 q s start.1 (ap begin_at e') in omega arith
 
     go : Turns inputs g body numbered i j → i ≡ j
     go (same z) = z
@@ -85,17 +85,17 @@ module _ (inputs : Inputs) (registers : ℕ → ℕ → ℕ) (body : Term) (numb
   runs_at s (Runs scope a u) b k = go (a == s) refl k
     where
       go : (c : Bool) → (a == s) ≡ c → (if c then chosen_act scope s (head u) else None) ≡ Some b → (scope' : ℕ → Outcome) × (u' : Term) × (Runs scope a u ≡ Runs scope' s u')
-      go true e i = let z : a ≡ s = grind (arith, nat_tests) in (scope, u, ap (λ n. Runs scope n u) z)
+      go true e i = let same_begin : a ≡ s = grind (arith, nat_tests) in (scope, u, ap (λ n. Runs scope n u) same_begin)
       go false e i = absurd cc
 
   pub chose_is : (i q : ℕ) (scope : ℕ → Outcome) (s : ℕ) (u : Term) (f : Expr) → run_of inputs (sees registers) body i q ≡ Runs scope s u → Asks (head u) f → (value registers scope s f).number == 1 ≡ chose q s
   unfolding chose chosen_at get_bool
   chose_is i q scope s u f e k =
-      let b : Begun inputs registers body i q = record { scope = scope; begin = s; term = u; runs = e } in
-      let l : i ≤ s = turn_by inputs registers body numbered tail i q b in
+      let begun : Begun inputs registers body i q = record { scope = scope; begin = s; term = u; runs = e } in
+      let by_then : i ≤ s = turn_by inputs registers body numbered tail i q begun in
       let same : (s == s) ≡ true = grind (arith, nat_tests) in
       let here : chosen_at s (Runs scope s u) ≡ Some ((value registers scope s f).number == 1) = ap (λ c. if c then chosen_act scope s (head u) else None) same ∙ chosen_is scope s (head u) f k in
-      let z : greatest (λ i. chosen_at s (run_of inputs (sees registers) body i q)) (s + 1) ≡ Some ((value registers scope s f).number == 1) =
+      let is_greatest : greatest (λ i. chosen_at s (run_of inputs (sees registers) body i q)) (s + 1) ≡ Some ((value registers scope s f).number == 1) =
       greatest_only (λ i. chosen_at s (run_of inputs (sees registers) body i q)) (s + 1) i ((value registers scope s f).number == 1) (omega arith) (ap (chosen_at s) e ∙ here)
-      (λ j c o. let y = runs_at s (run_of inputs (sees registers) body j q) c o in one_turn inputs body numbered tail (sees registers) j i q y.0 scope s y.1 u y.2 e) in
-      sym (ap get_bool z)
+      (λ j c o. let at_begin = runs_at s (run_of inputs (sees registers) body j q) c o in one_turn inputs body numbered tail (sees registers) j i q at_begin.0 scope s at_begin.1 u at_begin.2 e) in
+      sym (ap get_bool is_greatest)

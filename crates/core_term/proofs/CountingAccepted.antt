@@ -68,8 +68,8 @@ module _ (widths : Widths) (r : ℕ) where
       go (at_cycle q) = let more_Statement : Term → Type 0 = λ z. Uses (head z) k.value in absurd (subst more_Statement q k.uses)
       go (at_set q v) =
           let further_Statement : Term → Type 0 = λ z. Uses (head z) k.value in
-          let R : Term → List Act → Type 0 = λ z vs. Has (expr_sources (site (head z)) (sources_in vs) k.value) a in
-          (q, from_value k.value (subst further_Statement q k.uses) (subst (λ z. R z []) q (subst (λ vs. R u vs) v k.has)))
+          let second_Statement : Term → List Act → Type 0 = λ z vs. Has (expr_sources (site (head z)) (sources_in vs) k.value) a in
+          (q, from_value k.value (subst further_Statement q k.uses) (subst (λ z. second_Statement z []) q (subst (λ vs. second_Statement u vs) v k.has)))
 
   -- it is used as it is read
   used_at_once : (p : Process) (u : Term) (q n : ℕ) → RestsOn body u (RegOf q n) → Holds p body (use_by (head u) (pos 0) (begin_of q))

@@ -83,8 +83,8 @@ module _ (inputs : Inputs) (body : Term) (numbered : Numbered [] 0 body) where
       let by_some_start = some_start inputs g body numbered (begins inputs g body j) q scope s u n in
       let by_turn_end = turn_end inputs g body numbered (begins inputs g body j) by_some_start.0 by_later_turn.0 by_some_start.1 by_later_turn.2 in
       let Statement : Option ℕ → Type 0 = λ w. EarlyIn inputs g (run_from inputs g body w) (run_from inputs g body w q) by_later_turn.0 in
-      let y = subst Statement (sym by_some_start.1) (early inputs g (run_from inputs g body (Some by_some_start.0)) [] 0 no_variable by_some_start.0 body by_later_turn.0 numbered tail (record { each = λ q l m. refl }) by_turn_end q (omega arith) (let by_within = within g j q scope s u n in omega arith)).is in
-      let fact = rw n at y in
+      let early_there = subst Statement (sym by_some_start.1) (early inputs g (run_from inputs g body (Some by_some_start.0)) [] 0 no_variable by_some_start.0 body by_later_turn.0 numbered tail (record { each = λ q l m. refl }) by_turn_end q (omega arith) (let by_within = within g j q scope s u n in omega arith)).is in
+      let fact = rw n at early_there in
       omega (arith, by_later_turn.1, fact.0)
 
   module _ (tail : IsTail body) (registers : ℕ → ℕ → ℕ) (made : MadeFirst body) (choices : ChoicesKept body) (chose : ℕ → ℕ → Bool)

@@ -165,12 +165,12 @@ module _ (body : Term) (time : Point → Time) (fit : fits body time ≡ true) w
 
   second_of_two : (x y o : Time) (t : ℕ) → o ≡ At t → o ≡ both x y → (s : ℕ) × (s ≤ t) × (y ≡ At s)
   second_of_two Lost y o t e k = let further_equal : Lost ≡ At t = sym k ∙ e in absurd cc
-  second_of_two (At s) Lost o t e k = let z : Lost ≡ At t = sym k ∙ e in absurd cc
-  second_of_two (At s) (At u) o t e k = let last_equal : At (max s u) ≡ At t = sym k ∙ e in let y : max s u ≡ t = cc in (u, omega arith, refl)
+  second_of_two (At s) Lost o t e k = let second_equal : Lost ≡ At t = sym k ∙ e in absurd cc
+  second_of_two (At s) (At u) o t e k = let last_equal : At (max s u) ≡ At t = sym k ∙ e in let third_equal : max s u ≡ t = cc in (u, omega arith, refl)
 
   shifted : (x o : Time) (n t : ℕ) → o ≡ At t → o ≡ plus n x → (s : ℕ) × (s + n ≤ t) × (x ≡ At s)
-  shifted Lost o n t e k = let z : Lost ≡ At t = sym k ∙ e in absurd cc
-  shifted (At s) o n t e k = let z : At (s + n) ≡ At t = sym k ∙ e in let y : s + n ≡ t = cc in (s, omega arith, refl)
+  shifted Lost o n t e k = let fourth_equal : Lost ≡ At t = sym k ∙ e in absurd cc
+  shifted (At s) o n t e k = let fifth_equal : At (s + n) ≡ At t = sym k ∙ e in let late_equal : s + n ≡ t = cc in (s, omega arith, refl)
 
   max_is : (s u : ℕ) → (max s u ≡ s) ⊎ (max s u ≡ u)
   max_is s u = grind arith

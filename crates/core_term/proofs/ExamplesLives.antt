@@ -32,21 +32,21 @@ shown = wires echo changed (history echo changed)
 
 -- the answer is not taken in cycle 1
 not_taken : Exchange shown 1 1 → ⊥
-not_taken e = let z : false ≡ true = e.2 in absurd cc
+not_taken e = let decided : false ≡ true = e.2 in absurd cc
 
 differ : (n : ℕ) → n ≡ 9 → n ≡ 7 → ⊥
 differ n k l = omega arith
 
 breaks : IsKept shown (life_of echo 0) 0 2 → ⊥
 breaks kept =
-    let life : InLife shown (life_of echo 0) 1 2 = (omega arith, ((λ c low high e. not_taken (let i : c ≡ 1 = omega arith in subst (λ z. Exchange shown 1 z) i e)), tt)) in
+    let life : InLife shown (life_of echo 0) 1 2 = (omega arith, ((λ c low high e. not_taken (let equal : c ≡ 1 = omega arith in subst (λ z. Exchange shown 1 z) equal e)), tt)) in
     let taken : Exchange shown 0 1 = (omega arith, refl, refl) in
     differ (shown.data_at 0 2) refl (kept 1 2 taken (omega arith) life)
 
 -- up to cycle 1 there is one exchange, in that cycle
 kept_before : (t : ℕ) → t < 2 → IsKept shown (life_of echo 0) 0 t
-kept_before t l zero cycle e m life = let z : false ≡ true = e.1 in absurd cc
-kept_before t l (suc s) cycle e m life = let i : cycle ≡ suc s = let k = life.0 in omega arith in ap (λ c. shown.data_at 0 c) i
+kept_before t l zero cycle e m life = let next_decided : false ≡ true = e.1 in absurd cc
+kept_before t l (suc s) cycle e m life = let next_equal : cycle ≡ suc s = let by_life = life.0 in omega arith in ap (λ c. shown.data_at 0 c) next_equal
 
 first_port : (m : ℕ) → is_received echo m ≡ true → m ≡ 0
 first_port zero k = refl
@@ -56,7 +56,7 @@ first_port (suc (suc m)) k = absurd cc
 breach : IsFirstBreach echo shown 2 0
 breach = record {
   within = omega arith;
-  before = λ t l m k. let i : 0 ≡ m = sym (first_port m k) in subst (λ n. IsKept shown (life_of echo n) n t) i (kept_before t l);
+  before = λ t l m k. let last_equal : 0 ≡ m = sym (first_port m k) in subst (λ n. IsKept shown (life_of echo n) n t) last_equal (kept_before t l);
   received = refl;
   broken = breaks;
   first = λ m l k. absurd (omega arith);

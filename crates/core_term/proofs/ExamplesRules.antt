@@ -80,11 +80,11 @@ answer_times = times (stage 0 0 0 2 ∷ stage 0 0 1 2 ∷ stage 1 1 2 2 ∷ []) 
 
 -- of a life with the one end `#k`
 pub by_count : (k final s : ℕ) → final + 1 ≡ s + k → (n : ℕ) → Cycles (n + 1) ≡ Cycles k ⊎ ⊥ → final ≤ s + n
-by_count k final s e n (inl i) = let j : n + 1 ≡ k = cc in omega arith
+by_count k final s e n (inl i) = let equal : n + 1 ≡ k = cc in omega arith
 by_count k final s e n (inr i) = absurd i
 
 pub lasts : (k : ℕ) → 0 < k → (Cycles 0 ≡ Cycles k) ⊎ ⊥ → ⊥
-lasts k l (inl i) = let j : 0 ≡ k = cc in omega arith
+lasts k l (inl i) = let next_equal : 0 ≡ k = cc in omega arith
 lasts k l (inr i) = absurd i
 
 pub no_act : {A : Type 0} (k m : ℕ) → (Until m ≡ Cycles k) ⊎ ⊥ → A

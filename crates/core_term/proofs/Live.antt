@@ -186,10 +186,10 @@ module _ (inputs : Inputs) (view : Sees) (run : ℕ → Fate) where
         where
           done : (b : Bool) → nat_lt c inputs.count ≡ b → Rest a t
           done false k' =
-              let z = at_rest (λ q y y'. let part = w q y y' in rw k' at part) in
+              let rest = at_rest (λ q y y'. let part = w q y y' in rw k' at part) in
               let j' : term_end_at inputs view (run (site a)) ≡ Later = rw k' at j in
               let past : inputs.count ≤ c = grind (arith, nat_tests) in
-              record { begins = rw (z.0, i) (same_past past); ends_too = same_eq (j' ∙ sym z.1); obeys = z.2 }
+              record { begins = rw (rest.0, i) (same_past past); ends_too = same_eq (j' ∙ sym rest.1); obeys = rest.2 }
           done true k' =
               let p' : 0 < size t = size_positive t in
               let w' : (q : ℕ) → low + act_size a ≤ q → q < low + act_size a + size t → run q ≡ fate inputs view (bind scope (site a) (Done c v)) c t q = λ q y y'. let next_part = w q y y' in rw k' at next_part in
@@ -312,9 +312,9 @@ module _ (inputs : Inputs) (view : Sees) (run : ℕ → Fate) where
         let other_equal : run low ≡ Runs scope s (Then a t) = g.each low (omega arith) (omega arith) ∙ fate_head inputs view scope s vs low (Then a t) n in
         let more_equal : site a ≡ low = act_site vs low a n.0 in
         let further_equal : site (head t) ≡ low + act_size a = head_site _ _ t n.1 in
-        let f : run (site a) ≡ Runs scope s (Then a t) = rw more_equal other_equal in
+        let second_equal : run (site a) ≡ Runs scope s (Then a t) = rw more_equal other_equal in
         let inner : Agrees run (inside inputs view scope s a) (low + 1) (low + act_size a) = record { each = λ q i j. g.each q (omega arith) (omega arith) ∙ (pick_lt q (site (head t)) _ _ (omega arith) ∙ pick_ne q (site a) _ _ (λ k. omega arith)) } in
-        let by_then_rest = then_rest vs low scope s a t n g f in_scope (λ scope' s' g' in_scope'. live (a ∷ vs) (low + act_size a) scope' s' t n.1 g' in_scope') (act_ends inputs view scope s a) refl in
+        let by_then_rest = then_rest vs low scope s a t n g second_equal in_scope (λ scope' s' g' in_scope'. live (a ∷ vs) (low + act_size a) scope' s' t n.1 g' in_scope') (act_ends inputs view scope s a) refl in
         (same_eq refl, (by_then_rest.begins, (by_then_rest.ends_too, obeys_append inputs.count o (act_forms a) (forms t) (act_live vs low scope s a n.0 inner (live_head scope s low (Then a t) other_equal) in_scope) by_then_rest.obeys)))
     live vs low scope s (Both a t) n g in_scope =
         let is_less : 0 < act_size a = act_size_positive a in
@@ -322,16 +322,16 @@ module _ (inputs : Inputs) (view : Sees) (run : ℕ → Fate) where
         let next_equal : run low ≡ Runs scope s (Both a t) = g.each low (omega arith) (omega arith) ∙ fate_head inputs view scope s vs low (Both a t) n in
         let equal : site a ≡ low = act_site vs low a n.0 in
         let last_equal : site (head t) ≡ low + act_size a = head_site _ _ t n.1 in
-        let f : run (site a) ≡ Runs scope s (Both a t) = rw equal next_equal in
+        let third_equal : run (site a) ≡ Runs scope s (Both a t) = rw equal next_equal in
         let inner : Agrees run (inside inputs view scope s a) (low + 1) (low + act_size a) = record { each = λ q i j. g.each q (omega arith) (omega arith) ∙ (pick_lt q (site (head t)) _ _ (omega arith) ∙ pick_ne q (site a) _ _ (λ k. omega arith)) } in
         let rest : Agrees run (fate inputs view (bind scope (site a) (act_ends inputs view scope s a)) s t) (low + act_size a) (low + act_size a + size t) = record { each = λ q i j. g.each q (omega arith) (omega arith) ∙ pick_ge q (site (head t)) _ _ (omega arith) } in
         let more_equal : run (site (head t)) ≡ Runs (bind scope (site a) (act_ends inputs view scope s a)) s t = rw last_equal (rest.each (low + act_size a) (omega arith) (omega arith) ∙ fate_head inputs view _ s _ _ t n.1) in
-        let further_equal : o (End (site a)) ≡ of_outcome (act_ends inputs view scope s a) = ap (end_at inputs view) f in (
+        let further_equal : o (End (site a)) ≡ of_outcome (act_ends inputs view scope s a) = ap (end_at inputs view) third_equal in (
           same_eq refl,
           (
-            same_eq (ap begin_at more_equal ∙ sym (ap begin_at f)),
+            same_eq (ap begin_at more_equal ∙ sym (ap begin_at third_equal)),
             (
-              join_live (act_ends inputs view scope s a) (ends inputs view (bind scope (site a) (act_ends inputs view scope s a)) s t) (ap (term_end_at inputs view) f) further_equal (ap (term_end_at inputs view) more_equal),
+              join_live (act_ends inputs view scope s a) (ends inputs view (bind scope (site a) (act_ends inputs view scope s a)) s t) (ap (term_end_at inputs view) third_equal) further_equal (ap (term_end_at inputs view) more_equal),
               obeys_append inputs.count o (act_forms a) (forms t)
                   (act_live vs low scope s a n.0 inner (live_head scope s low (Both a t) next_equal) in_scope)
                   (live (a ∷ vs) (low + act_size a) (bind scope (site a) (act_ends inputs view scope s a)) s t n.1 rest (scope_more vs low (low + act_size a) scope a (act_ends inputs view scope s a) in_scope equal (omega arith) further_equal)),

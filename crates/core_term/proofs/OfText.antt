@@ -258,10 +258,10 @@ module _ (body : Term) where
     of_text p j _ _ _ _ (sends_next q r m a b) = (end_real false q (act_site (λ a. Sends a m) q a), begin_real true r (act_site (λ a. Sends a m) r b))
     of_text p j _ _ _ _ (wire_within u q m k s a e) = use_of_text (head u) _ _ (user u _ s) (end_real false q (act_site (λ a. Receives a m) q a))
     of_text p j _ _ _ _ (wire_until u q m n w s a e b) =
-        let i = act_site (λ a. Receives a m) q a in
-        let k = act_site (λ a. OnPort a n) w b in
+        let second_by_act_site = act_site (λ a. Receives a m) q a in
+        let third_by_act_site = act_site (λ a. OnPort a n) w b in
         let by_user = user u _ s in
-        (use_of_text (head u) _ _ by_user (end_real false q i), (((end_real false w k, end_real false q i), use_of_text (head u) _ _ by_user (end_real false w k)), use_of_text (head u) _ _ by_user (end_real true w k)))
+        (use_of_text (head u) _ _ by_user (end_real false q second_by_act_site), (((end_real false w third_by_act_site, end_real false q second_by_act_site), use_of_text (head u) _ _ by_user (end_real false w third_by_act_site)), use_of_text (head u) _ _ by_user (end_real true w third_by_act_site)))
     of_text p j _ _ _ _ (set_elsewhere u q r i w other s found different written) = use_of_text (head u) _ _ (user u _ s) (begin_real false q (source u (RegOf q r) s))
     of_text p j _ _ _ _ (set_here u q r w s written) =
         let by_source = source u (RegOf q r) s in

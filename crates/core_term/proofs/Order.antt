@@ -49,7 +49,7 @@ module _ (inputs : Inputs) (view : Sees) where
 
     pub rule_in : (o : Spot → Occurrence) (all_forms : List Formed) (b : Spot) (f : Form Spot) → Obeys inputs.count o all_forms → IsFormed all_forms b f → LocalRule inputs.count o b f
     rule_in o [] b f k m = elim m [ ]
-    rule_in o (g ∷ more_forms) b f k (inl e) = let P : Formed → Type 0 = λ z. LocalRule inputs.count o z.spot z.form in subst P e k.0
+    rule_in o (g ∷ more_forms) b f k (inl e) = let Statement : Formed → Type 0 = λ z. LocalRule inputs.count o z.spot z.form in subst Statement e k.0
     rule_in o (g ∷ more_forms) b f k (inr m) = rule_in o more_forms b f k.1 m
 
     pub rule : (o : Option ℕ) (b : Spot) (f : Form Spot) → IsFormed (forms body) b f → LocalRule inputs.count (occurrence inputs view (run_from inputs view body o)) b f
@@ -61,7 +61,7 @@ module _ (inputs : Inputs) (view : Sees) where
     -- the begin and the end of the body
     pub body_begin : (o : Option ℕ) (t : ℕ) → occurrence inputs view (run_from inputs view body o) (TermBegin (site (head body))) ≡ At t → o ≡ Some t
     body_begin None t e = absurd (idle_not idle_later e)
-    body_begin (Some s) t e = let k : At s ≡ At t = sym (ap begin_at (fate_head inputs view no_variable s [] 0 body numbered)) ∙ (rw head_is at e) in let m : s ≡ t = cc in ap Some m
+    body_begin (Some s) t e = let equal : At s ≡ At t = sym (ap begin_at (fate_head inputs view no_variable s [] 0 body numbered)) ∙ (rw head_is at e) in let next_equal : s ≡ t = cc in ap Some next_equal
 
     pub body_begins : (t : ℕ) → occurrence inputs view (run_from inputs view body (Some t)) (TermBegin (site (head body))) ≡ At t
     body_begins t = rw head_is (ap begin_at (fate_head inputs view no_variable t [] 0 body numbered))
@@ -83,7 +83,7 @@ module _ (inputs : Inputs) (view : Sees) where
         go (Done c v) e = done (nat_lt c inputs.count) e
           where
             done : (b : Bool) → (if b then Some c else None) ≡ Some t → At c ≡ At t
-            done true e = let m : c ≡ t = cc in ap At m
+            done true e = let equal : c ≡ t = cc in ap At equal
             done false e = absurd cc
 
     pub next_to : (o : Option ℕ) (t : ℕ) → t < inputs.count → occurrence inputs view (run_from inputs view body o) (TermEnd (site (head body))) ≡ At t → next_begin inputs view body o ≡ Some t
@@ -92,7 +92,7 @@ module _ (inputs : Inputs) (view : Sees) where
       where
         go : (o : Outcome) → of_outcome o ≡ At t → begin_after inputs o ≡ Some t
         go Open e = absurd (idle_not idle_later e)
-        go (Done c v) e = let m : c ≡ t = cc in let k : nat_lt c inputs.count ≡ true = grind (arith, nat_tests) in rw k (ap Some m)
+        go (Done c v) e = let next_equal : c ≡ t = cc in let decided : nat_lt c inputs.count ≡ true = grind (arith, nat_tests) in rw decided (ap Some next_equal)
 
     -- a later turn begins no earlier than an earlier one ends
     pub next_after : (o : Option ℕ) (s t : ℕ) → o ≡ Some s → next_begin inputs view body o ≡ Some t → s ≤ t
@@ -106,10 +106,10 @@ module _ (inputs : Inputs) (view : Sees) where
     later_turn i zero t e = (t, omega arith, next_from (begins inputs view body i) t (rw zero-add at e))
     later_turn i (suc k) t e =
         let e' : next_begin inputs view body (begins inputs view body (suc (k + i))) ≡ Some t = rw add.suc at e in
-        let s = before_some (begins inputs view body (suc (k + i))) t e' in
-        let l = next_after _ s.0 t s.1 e' in
-        let r = later_turn i k s.0 s.1 in
-        (r.0, omega arith, r.2)
+        let by_before_some = before_some (begins inputs view body (suc (k + i))) t e' in
+        let by_next_after = next_after _ by_before_some.0 t by_before_some.1 e' in
+        let by_later_turn = later_turn i k by_before_some.0 by_before_some.1 in
+        (by_later_turn.0, omega arith, by_later_turn.2)
 
     -- two turns, i and the later one suc (k + i)
     module _ (i k : ℕ) where
@@ -134,7 +134,7 @@ module _ (inputs : Inputs) (view : Sees) where
       rule_of l b f m = rule (begin_of_turn l) b f m
 
       move : {l m : Bool} (b : Spot) {o : Occurrence} → l ≡ m → at l b ≡ o → at m b ≡ o
-      move b {o = o} e k = let P : Bool → Type 0 = λ z. at z b ≡ o in subst P e k
+      move b {o = o} e k = let Statement : Bool → Type 0 = λ z. at z b ≡ o in subst Statement e k
 
       left_of : (a c : Point) → a.late ≡ c.late → Left a → Left c
       left_of a c e (inl l) = inl (sym e ∙ l)
@@ -144,23 +144,23 @@ module _ (inputs : Inputs) (view : Sees) where
       up_later b c (Same _) (inl m) by_same t e = (t, omega arith, move _ m.0 ((rule_of b.late _ _ m.1).up t e))
       up_later b c (Same _) (inr m) by_same t e =
           let e' : at true (TermBegin (site (head body))) ≡ At t = rw m.1 at (move _ m.0 e) in
-          let g = later_turn i k t (body_begin _ t e') in
-          (g.0, g.1, rw (m.2, m.3) g.2)
+          let by_later_turn = later_turn i k t (body_begin _ t e') in
+          (by_later_turn.0, by_later_turn.1, rw (m.2, m.3) by_later_turn.2)
       up_later b c (Side _) m by_side t e = (t, omega arith, move _ m.0 ((rule_of b.late _ _ m.1).up t e))
-      up_later b c (Sync _) m by_sync t e = let g = (rule_of b.late _ _ m.1).up t e in (g.0, g.1, move _ m.0 g.2)
-      up_later b c (Join _ d) m by_first t e = let g = (rule_of b.late _ _ m.2).up t e in let l : max g.0 g.1 ≡ t = g.2 in (g.0, omega arith, move _ m.0 g.3)
-      up_later b c (Join d _) m by_second t e = let g = (rule_of b.late _ _ m.2).up t e in let l : max g.0 g.1 ≡ t = g.2 in (g.1, omega arith, move _ m.1 g.4)
+      up_later b c (Sync _) m by_sync t e = let by_rule_of = (rule_of b.late _ _ m.1).up t e in (by_rule_of.0, by_rule_of.1, move _ m.0 by_rule_of.2)
+      up_later b c (Join _ d) m by_first t e = let next_by_rule_of = (rule_of b.late _ _ m.2).up t e in let equal : max next_by_rule_of.0 next_by_rule_of.1 ≡ t = next_by_rule_of.2 in (next_by_rule_of.0, omega arith, move _ m.0 next_by_rule_of.3)
+      up_later b c (Join d _) m by_second t e = let last_by_rule_of = (rule_of b.late _ _ m.2).up t e in let next_equal : max last_by_rule_of.0 last_by_rule_of.1 ≡ t = last_by_rule_of.2 in (last_by_rule_of.1, omega arith, move _ m.1 last_by_rule_of.4)
       up_later b c Start m k' t e = elim k' [ ]
       up_later b c (After _ _) m k' t e = elim k' [ ]
       up_later b c (Merge _ _) m k' t e = elim k' [ ]
 
       down_same : (a c : Point) (f : Form Point) → HasForm body a f → AtOnce c f → Left a → (s : ℕ) → s < inputs.count → Occurs c s → IsLost a ⊎ Occurs a s
       down_same a c (Same _) (inl m) by_same l s less e = inr ((rule_of a.late _ _ m.1).down s less (move _ (sym m.0) e))
-      down_same a c (Same _) (inr m) by_same (inl l) s less e = let q : true ≡ false = sym m.0 ∙ l in absurd cc
+      down_same a c (Same _) (inr m) by_same (inl l) s less e = let decided : true ≡ false = sym m.0 ∙ l in absurd cc
       down_same a c (Same _) (inr m) by_same (inr l) s less e =
           let e' : at false (TermEnd (site (head body))) ≡ At s = rw m.3 at (move _ m.2 e) in
-          let g : next_begin inputs view body (begins inputs view body i) ≡ Some s = next_to _ s less e' in
-          let g' : begin_of_turn true ≡ Some s = rw (l, zero-add) g in
+          let last_equal : next_begin inputs view body (begins inputs view body i) ≡ Some s = next_to _ s less e' in
+          let g' : begin_of_turn true ≡ Some s = rw (l, zero-add) last_equal in
           inr (rw (m.0, m.1) (rw g' (body_begins s)))
       down_same a c (Side _) m by_side l s less e = (rule_of a.late _ _ m.1).down s less (move _ (sym m.0) e)
       down_same a c Start m k' l s less e = elim k' [ ]
@@ -191,14 +191,14 @@ module _ (inputs : Inputs) (view : Sees) where
 
       apart_at : (o : Option ℕ) (b c : Spot) → Apart body b c → (t : ℕ) → occurrence inputs view (run_from inputs view body o) c ≡ At t → occurrence inputs view (run_from inputs view body o) b ≡ Gone
       apart_at None b c d t e =
-          let w = apart_in [] 0 body b c numbered d in
-          absurd (idle_not idle_later (sym (none_at inputs view (run_from inputs view body None) body 0 Waits idle_later (record { each = λ q l m. refl }) c w.0 w.1) ∙ e))
+          let by_apart_in = apart_in [] 0 body b c numbered d in
+          absurd (idle_not idle_later (sym (none_at inputs view (run_from inputs view body None) body 0 Waits idle_later (record { each = λ q l m. refl }) c by_apart_in.0 by_apart_in.1) ∙ e))
       apart_at (Some s) b c d t e = apart inputs view (run_from inputs view body (Some s)) b c t e [] 0 no_variable s body numbered (record { each = λ q l m. refl }) d
 
       pub timed : Timed Point (HasForm body) (Exclusive body) inputs.count Left Occurs IsLost
       timed = record {
         up_later = up_later;
-        up_after = λ b c n m t e. let g = (rule_of b.late _ _ m.1).up t e in (g.0, omega (arith, g.1), move _ m.0 g.2);
+        up_after = λ b c n m t e. let by_rule_of = (rule_of b.late _ _ m.1).up t e in (by_rule_of.0, omega (arith, by_rule_of.1), move _ m.0 by_rule_of.2);
         up_merge = λ b c d m t e. elim ((rule_of b.late _ _ m.2).up t e) [ inl g ↦ inl (move _ m.0 g) | inr g ↦ inr (move _ m.1 g) ];
         left_same = left_same;
         left_after = λ a c n m l. left_of a c m.0 l;

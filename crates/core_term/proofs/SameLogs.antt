@@ -60,9 +60,9 @@ module _ (p : Process) (wires other : Wires) (registers registers' : ℕ → ℕ
   ports_same : (ports : List Port) (m : ℕ) → ((k : ℕ) → nth_port p.ports (m + k) ≡ nth_port ports k) → port_texts wires t m ports ≡ port_texts other t m ports
   ports_same [] m k = refl
   ports_same (port ∷ ports) m k =
-      let e : m + 0 ≡ m = omega arith in
-      let first : nth_port p.ports m ≡ port = ap (nth_port p.ports) (sym e) ∙ k 0 in
-      let rest = ports_same ports (m + 1) (λ n. let f : m + 1 + n ≡ m + suc n = omega arith in ap (nth_port p.ports) f ∙ k (suc n)) in
+      let equal : m + 0 ≡ m = omega arith in
+      let first : nth_port p.ports m ≡ port = ap (nth_port p.ports) (sym equal) ∙ k 0 in
+      let rest = ports_same ports (m + 1) (λ n. let next_equal : m + 1 + n ≡ m + suc n = omega arith in ap (nth_port p.ports) next_equal ∙ k (suc n)) in
       rw (port_same m port first, rest) refl
 
   registers_same : (rest : List Register) (r : ℕ) → register_texts registers t r rest ≡ register_texts registers' t r rest
@@ -70,7 +70,7 @@ module _ (p : Process) (wires other : Wires) (registers registers' : ℕ → ℕ
   registers_same (register ∷ rest) r = rw ((alike t (omega arith)).registers_agree r, registers_same rest (r + 1)) refl
 
   pub line_same : log_line p wires registers t ≡ log_line p other registers' t
-  line_same = rw (ports_same p.ports 0 (λ k. let e : 0 + k ≡ k = omega arith in ap (nth_port p.ports) e), registers_same p.registers 0) refl
+  line_same = rw (ports_same p.ports 0 (λ k. let last_equal : 0 + k ≡ k = omega arith in ap (nth_port p.ports) last_equal), registers_same p.registers 0) refl
 
 module _ (p : Process) (process : IsProcess p) (accepted : KeepsDemands p) (inputs : Inputs) (registers : ℕ → ℕ → ℕ) (history : IsHistory p inputs registers) (run : Reread) (again : IsReread p inputs run) where
   abbrev KeptTo : ℕ → Type 0
@@ -78,7 +78,7 @@ module _ (p : Process) (process : IsProcess p) (accepted : KeepsDemands p) (inpu
 
   -- of received ports both runs show what comes in
   comes_in : (m t : ℕ) → is_received p m ≡ true → data_wire p inputs registers m t ≡ run.wires.data_at m t
-  comes_in m t side = let z : data_wire p inputs registers m t ≡ inputs.data_at m t = rw side refl in z ∙ sym (again.data_in m t side)
+  comes_in m t side = let other_equal : data_wire p inputs registers m t ≡ inputs.data_at m t = rw side refl in other_equal ∙ sym (again.data_in m t side)
 
   lines_same : (t n : ℕ) → t + n ≤ inputs.count → KeptTo (t + n) → log_text p (wires p inputs registers) registers t n ≡ log_text p run.wires run.registers t n
   lines_same t zero l k = refl
@@ -93,12 +93,12 @@ module _ (p : Process) (process : IsProcess p) (accepted : KeepsDemands p) (inpu
   kept_back (suc n) l k t m = go (kept_back n (omega arith) (λ s i. k s (omega arith))) (nat_lt t n) refl
     where
       go : KeptTo n → (b : Bool) → nat_lt t n ≡ b → PromisesKept p (wires p inputs registers) t
-      go before true e = let z : t < n = grind (arith, nat_tests) in before t z
+      go before true e = let is_less : t < n = grind (arith, nat_tests) in before t is_less
       go before false e =
-          let z : n ≤ t = grind (arith, nat_tests) in
-          let y : t ≡ n = omega arith in
-          let P : ℕ → Type 0 = λ c. PromisesKept p (wires p inputs registers) c in
-          subst P (sym y) (λ port side. (breaks_alike p process accepted inputs registers history run again n (omega arith) before port side).1 (k n (omega arith) port side))
+          let at_most : n ≤ t = grind (arith, nat_tests) in
+          let equal : t ≡ n = omega arith in
+          let Statement : ℕ → Type 0 = λ c. PromisesKept p (wires p inputs registers) c in
+          subst Statement (sym equal) (λ port side. (breaks_alike p process accepted inputs registers history run again n (omega arith) before port side).1 (k n (omega arith) port side))
 
   breach_there : (cycle port : ℕ) → IsFirstBreach p (wires p inputs registers) cycle port → IsFirstBreach p run.wires cycle port
   breach_there cycle port b =

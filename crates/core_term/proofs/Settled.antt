@@ -102,9 +102,9 @@ is_number_first k k' s s' r r' (inr (e, inl l)) =
 is_number_first k k' s s' r r' (inr (e, inr (f, l))) =
     let more_decided : nat_lt k k' ≡ false = grind (arith, nat_tests) in
     let further_decided : (k == k') ≡ true = grind (arith, nat_tests) in
-    let c : nat_lt s s' ≡ false = grind (arith, nat_tests) in
-    let d : (s == s') ≡ true = grind (arith, nat_tests) in
-    let z : nat_lt r r' ≡ true = grind (arith, nat_tests) in rw (more_decided, further_decided, c, d, z) refl
+    let second_decided : nat_lt s s' ≡ false = grind (arith, nat_tests) in
+    let third_decided : (s == s') ≡ true = grind (arith, nat_tests) in
+    let fourth_decided : nat_lt r r' ≡ true = grind (arith, nat_tests) in rw (more_decided, further_decided, second_decided, third_decided, fourth_decided) refl
 
 compare : (m n : ℕ) → (m < n) ⊎ ((m ≡ n) ⊎ (n < m))
 compare m n = elim (cases_lt m n) [

@@ -30,8 +30,8 @@ found_is e zero u k = absurd cc
 found_is e (suc n) u k = go (e n) refl k (found_is e n u)
   where
     go : (b : Bool) → e n ≡ b → or_else (if b then Some n else None) (greatest (λ u. if e u then Some u else None) n) ≡ Some u → (greatest (λ u. if e u then Some u else None) n ≡ Some u → (u < n) × (e u ≡ true)) → (u < suc n) × (e u ≡ true)
-    go true i j before = let z : n ≡ u = cc in (omega arith, sym (ap e z) ∙ i)
-    go false i j before = let z = before j in let l = z.0 in (omega arith, z.1)
+    go true i j before = let equal : n ≡ u = cc in (omega arith, sym (ap e equal) ∙ i)
+    go false i j before = let by_before = before j in let then_before = by_before.0 in (omega arith, by_before.1)
 
 -- there is one where there is any, and it is no earlier
 pub find : (e : ℕ → Bool) (n start : ℕ) → start < n → e start ≡ true → (u : ℕ) × (greatest (λ u. if e u then Some u else None) n ≡ Some u) × (start ≤ u) × (u < n)
@@ -44,37 +44,37 @@ find e (suc n) start l k = go (e n) refl (find e n start)
     go false i before = at (nat_lt start n) refl
       where
         at : (b : Bool) → nat_lt start n ≡ b → (u : ℕ) × (or_else (if e n then Some n else None) (greatest (λ u. if e u then Some u else None) n) ≡ Some u) × (start ≤ u) × (u < suc n)
-        at true f = let m : start < n = grind (arith, nat_tests) in let z = before m k in let y = z.3 in (z.0, rw i z.1, z.2, omega arith)
+        at true f = let is_less : start < n = grind (arith, nat_tests) in let next_by_before = before is_less k in let by_next_by_before = next_by_before.3 in (next_by_before.0, rw i next_by_before.1, next_by_before.2, omega arith)
         at false f =
-            let m : n ≤ start = grind (arith, nat_tests) in
-            let s : start ≡ n = omega arith in
-            let c : true ≡ false = sym k ∙ (ap e s ∙ i) in absurd cc
+            let at_most : n ≤ start = grind (arith, nat_tests) in
+            let next_equal : start ≡ n = omega arith in
+            let decided : true ≡ false = sym k ∙ (ap e next_equal ∙ i) in absurd cc
 
 module _ (wires : Wires) where
   pub exchange_is : (m t : ℕ) → exchanged wires m t ≡ true → Exchange wires m t
   exchange_is m t k =
-      let l : nat_lt t wires.count ≡ true = first_true _ _ k in
+      let next_decided : nat_lt t wires.count ≡ true = first_true _ _ k in
       let both = second_true (nat_lt t wires.count) _ k in
       (grind (arith, nat_tests), first_true (wires.valid m t) (wires.ack m t) both, second_true (wires.valid m t) (wires.ack m t) both)
 
   pub is_exchange : (m t : ℕ) → Exchange wires m t → exchanged wires m t ≡ true
   is_exchange m t k =
-      let l = k.0 in
-      let i : nat_lt t wires.count ≡ true = grind (arith, nat_tests) in
-      both_true (nat_lt t wires.count) _ i (both_true (wires.valid m t) (wires.ack m t) k.1 k.2)
+      let part = k.0 in
+      let last_decided : nat_lt t wires.count ≡ true = grind (arith, nat_tests) in
+      both_true (nat_lt t wires.count) _ last_decided (both_true (wires.valid m t) (wires.ack m t) k.1 k.2)
 
   pub none_says : (e : ℕ → Bool) (u n c : ℕ) → none_in e u n ≡ true → u ≤ c → c < u + n → e c ≡ true → ⊥
   none_says e u zero c k l m i = omega arith
   none_says e u (suc n) c k l m i = go (nat_lt u c) refl (λ low high. none_says e (u + 1) n c (second_true (not (e u)) _ k) low high i)
     where
       go : (b : Bool) → nat_lt u c ≡ b → (u + 1 ≤ c → c < u + 1 + n → ⊥) → ⊥
-      go true f rest = let z : u < c = grind (arith, nat_tests) in rest (omega arith) (omega arith)
+      go true f rest = let next_is_less : u < c = grind (arith, nat_tests) in rest (omega arith) (omega arith)
       go false f rest =
-          let z : c ≤ u = grind (arith, nat_tests) in
-          let s : c ≡ u = omega arith in
-          let x : e u ≡ true = sym (ap e s) ∙ i in
-          let y : not (e u) ≡ true = first_true _ _ k in
-          let w : not true ≡ true = sym (ap not x) ∙ y in absurd cc
+          let next_at_most : c ≤ u = grind (arith, nat_tests) in
+          let equal : c ≡ u = omega arith in
+          let other_decided : e u ≡ true = sym (ap e equal) ∙ i in
+          let more_decided : not (e u) ≡ true = first_true _ _ k in
+          let decided : not true ≡ true = sym (ap not other_decided) ∙ more_decided in absurd cc
 
   pub says_none : (e : ℕ → Bool) (u n : ℕ) → ((c : ℕ) → u ≤ c → c < u + n → e c ≡ true → ⊥) → none_in e u n ≡ true
   says_none e u zero k = refl
@@ -86,7 +86,7 @@ module _ (wires : Wires) where
 
   pub alive_within : (life : List LifeEnd) (u t : ℕ) → u ≤ t → alive (exchanged wires) life u t ≡ true → WithinAll wires u t life
   alive_within [] u t l k = tt
-  alive_within (Cycles n ∷ more) u t l k = let z : nat_lt t (u + n) ≡ true = first_true _ _ k in (grind (arith, nat_tests), alive_within more u t l (second_true (nat_lt t (u + n)) _ k))
+  alive_within (Cycles n ∷ more) u t l k = let next_decided : nat_lt t (u + n) ≡ true = first_true _ _ k in (grind (arith, nat_tests), alive_within more u t l (second_true (nat_lt t (u + n)) _ k))
   alive_within (Until m ∷ more) u t l k = (
     (λ c low high e. none_says (exchanged wires m) u (t - u) c (first_true _ _ k) low (omega arith) (is_exchange m c e)),
     alive_within more u t l (second_true (none_in (exchanged wires m) u (t - u)) _ k),
@@ -96,9 +96,9 @@ module _ (wires : Wires) where
   pub within_alive : (life : List LifeEnd) (start u t : ℕ) → start ≤ u → u ≤ t → WithinAll wires start t life → alive (exchanged wires) life u t ≡ true
   within_alive [] start u t l m k = refl
   within_alive (Cycles n ∷ more) start u t l m k =
-      let c : t < start + n = k.0 in
-      let z : nat_lt t (u + n) ≡ true = grind (arith, nat_tests) in
-      both_true (nat_lt t (u + n)) _ z (within_alive more start u t l m k.1)
+      let is_less : t < start + n = k.0 in
+      let last_decided : nat_lt t (u + n) ≡ true = grind (arith, nat_tests) in
+      both_true (nat_lt t (u + n)) _ last_decided (within_alive more start u t l m k.1)
   within_alive (Until q ∷ more) start u t l m k =
       both_true (none_in (exchanged wires q) u (t - u)) _ (says_none (exchanged wires q) u (t - u) (λ c low high e. k.0 c (omega arith) (omega arith) (exchange_is q c e))) (within_alive more start u t l m k.1)
 
@@ -107,7 +107,7 @@ module _ (wires : Wires) where
     where
       living : (o : Option ℕ) → latest (exchanged wires m) t ≡ o → lives wires life t o ≡ true → Shows wires life m t
       living None i j = absurd cc
-      living (Some u) i j = let z = found_is (exchanged wires m) (t + 1) u i in let l = z.0 in inr (u, exchange_is m u z.1, (omega arith, alive_within life u t (omega arith) j))
+      living (Some u) i j = let by_found_is = found_is (exchanged wires m) (t + 1) u i in let then_found_is = by_found_is.0 in inr (u, exchange_is m u by_found_is.1, (omega arith, alive_within life u t (omega arith) j))
 
       go : (b : Bool) → wires.valid m t ≡ b → (b || lives wires life t (latest (exchanged wires m) t)) ≡ true → Shows wires life m t
       go true i j = inl i
@@ -120,6 +120,6 @@ module _ (wires : Wires) where
       go : (b : Bool) → (b || lives wires life t (latest (exchanged wires m) t)) ≡ true
       go true = refl
       go false =
-          let z = find (exchanged wires m) (t + 1) start (omega arith) (is_exchange m start exchange) in
-          let l = z.3 in
-          ap (lives wires life t) z.1 ∙ within_alive life start z.0 t z.2 (omega arith) within
+          let by_find = find (exchanged wires m) (t + 1) start (omega arith) (is_exchange m start exchange) in
+          let then_find = by_find.3 in
+          ap (lives wires life t) by_find.1 ∙ within_alive life start by_find.0 t by_find.2 (omega arith) within

@@ -23,19 +23,19 @@ module _ (inputs : Inputs) (view : Sees) where
     pub takes : (scope : ℕ → Outcome) (s : ℕ) (u : Term) (e : ℕ) → IsTail u → of_outcome (ends inputs view scope s u) ≡ At e → s < e
     takes scope s (One a) e k q = act_takes scope s a e k q
     takes scope s (Then a u) e k q =
-        let c = chain_parts inputs view (λ q. Waits) (act_ends inputs view scope s a) (λ c v. ends inputs view (bind scope (site a) (Done c v)) c u) e q in
-        let l : s ≤ c.0 = act_from inputs view scope s a c.0 (ap of_outcome c.2) in
-        let m : c.0 < e = takes (bind scope (site a) (Done c.0 c.1)) c.0 u e k c.4 in
+        let by_chain_parts = chain_parts inputs view (λ q. Waits) (act_ends inputs view scope s a) (λ c v. ends inputs view (bind scope (site a) (Done c v)) c u) e q in
+        let at_most : s ≤ by_chain_parts.0 = act_from inputs view scope s a by_chain_parts.0 (ap of_outcome by_chain_parts.2) in
+        let is_less : by_chain_parts.0 < e = takes (bind scope (site a) (Done by_chain_parts.0 by_chain_parts.1)) by_chain_parts.0 u e k by_chain_parts.4 in
         omega arith
     takes scope s (Both a u) e k q =
-        let c = both_parts inputs view (λ q. Waits) (act_ends inputs view scope s a) (ends inputs view (bind scope (site a) (act_ends inputs view scope s a)) s u) e q in
-        let l : s < c.0 = act_takes scope s a c.0 k.0 c.2 in
-        let m : max c.0 c.1 ≡ e = c.4 in
+        let by_both_parts = both_parts inputs view (λ q. Waits) (act_ends inputs view scope s a) (ends inputs view (bind scope (site a) (act_ends inputs view scope s a)) s u) e q in
+        let next_is_less : s < by_both_parts.0 = act_takes scope s a by_both_parts.0 k.0 by_both_parts.2 in
+        let equal : max by_both_parts.0 by_both_parts.1 ≡ e = by_both_parts.4 in
         omega arith
 
     pub act_takes : (scope : ℕ → Outcome) (s : ℕ) (a : Act) (e : ℕ) → IsTailAct a → of_outcome (act_ends inputs view scope s a) ≡ At e → s < e
-    act_takes scope s (Cycle p n) e k q = let m : s + n ≡ e = cc in omega arith
-    act_takes scope s (Set p r f) e k q = let m : s + 1 ≡ e = cc in omega arith
+    act_takes scope s (Cycle p n) e k q = let next_equal : s + n ≡ e = cc in omega arith
+    act_takes scope s (Set p r f) e k q = let last_equal : s + 1 ≡ e = cc in omega arith
     act_takes scope s (If p f u v w) e k q = go (view.decide p s scope f) (decided_part inputs view (λ q. Waits) w p s _ e q) (takes scope s u e k.0) (takes scope s v e k.1)
       where
         go : (b : Bool) → of_outcome (if b then ends inputs view scope s u else ends inputs view scope s v) ≡ At e → (of_outcome (ends inputs view scope s u) ≡ At e → s < e) → (of_outcome (ends inputs view scope s v) ≡ At e → s < e) → s < e
@@ -59,12 +59,12 @@ module _ (inputs : Inputs) (view : Sees) (run : ℕ → Fate) where
     pub is : EarlyIn (run q) e
 
   early_as : (w : Fate) (q e : ℕ) → run q ≡ w → EarlyIn w e → Early q e
-  early_as w q e k l = let m : EarlyIn (run q) e = rw k l in record { is = m }
+  early_as w q e k l = let the_early_in : EarlyIn (run q) e = rw k l in record { is = the_early_in }
 
   up_in : (w : Fate) (e e' : ℕ) → e ≤ e' → EarlyIn w e → EarlyIn w e'
   up_in Waits e e' l k = tt
   up_in Lost e e' l k = tt
-  up_in (Runs scope s u) e e' l k = (omega (arith, k.0), λ t c q. let z = k.1 t c q in omega arith)
+  up_in (Runs scope s u) e e' l k = (omega (arith, k.0), λ t c q. let part = k.1 t c q in omega arith)
 
   up : {q e : ℕ} (e' : ℕ) → e ≤ e' → Early q e → Early q e'
   up e' l k = record { is = up_in _ _ e' l k.is }
@@ -73,8 +73,8 @@ module _ (inputs : Inputs) (view : Sees) (run : ℕ → Fate) where
   of_ended Waits e e' f l k = tt
   of_ended Lost e e' f l k = tt
   of_ended (Runs scope s u) e e' f l k =
-      let m = act_from inputs view scope s (head u) k.0 k.1 in
-      (omega (arith, k.2), λ t c q. let y : At k.0 ≡ At c = sym k.1 ∙ q in let z : k.0 ≡ c = cc in omega (arith, k.2))
+      let by_act_from = act_from inputs view scope s (head u) k.0 k.1 in
+      (omega (arith, k.2), λ t c q. let equal : At k.0 ≡ At c = sym k.1 ∙ q in let next_equal : k.0 ≡ c = cc in omega (arith, k.2))
 
   from_ended : {q e f : ℕ} (e' : ℕ) → e < e' → Ended inputs view run q e f → Early q e'
   from_ended {e = e} {f = f} e' l k = record { is = of_ended _ e e' f l k.is }
@@ -86,15 +86,15 @@ module _ (inputs : Inputs) (view : Sees) (run : ℕ → Fate) where
   joined low mid high e u v q l m = go (nat_lt q mid) refl
     where
       go : (b : Bool) → nat_lt q mid ≡ b → Early q e
-      go true k = let w : q < mid = grind (arith, nat_tests) in u q l w
-      go false k = let w : mid ≤ q = grind (arith, nat_tests) in v q w m
+      go true k = let is_less : q < mid = grind (arith, nat_tests) in u q l is_less
+      go false k = let at_most : mid ≤ q = grind (arith, nat_tests) in v q at_most m
 
   first_one : (low high e : ℕ) → Early low e → Each (low + 1) high e → Each low high e
   first_one low high e u v q l m = go (nat_lt low q) refl
     where
       go : (b : Bool) → nat_lt low q ≡ b → Early q e
-      go true k = let w : low < q = grind (arith, nat_tests) in v q (omega arith) m
-      go false k = let w : q ≤ low = grind (arith, nat_tests) in let w' : low ≡ q = omega arith in subst (λ z. Early z e) w' u
+      go true k = let next_is_less : low < q = grind (arith, nat_tests) in v q (omega arith) m
+      go false k = let next_at_most : q ≤ low = grind (arith, nat_tests) in let w' : low ≡ q = omega arith in subst (λ z. Early z e) w' u
 
   -- a body's last act, which takes time, is no send or recv
   not_talk : (a : Act) → IsTailAct a → IsTalk a → ⊥
@@ -115,22 +115,22 @@ module _ (inputs : Inputs) (view : Sees) (run : ℕ → Fate) where
         first_one low (low + act_size a) e (early_as (Runs scope s (One a)) low e (runs_here inputs view run vs low scope s (One a) n g) (act_takes inputs view scope s a e k q, λ t c i. absurd (not_talk a k t)))
         (act_early vs low scope s a e n k (one_inner inputs view run vs low scope s a n g) q)
     early vs low scope s (Then a u) e n k g q =
-        let c = chain_parts inputs view run (act_ends inputs view scope s a) (λ c v. ends inputs view (bind scope (site a) (Done c v)) c u) e q in
-        let a_end : of_outcome (act_ends inputs view scope s a) ≡ At c.0 = ap of_outcome c.2 in
-        let l : s ≤ c.0 = act_from inputs view scope s a c.0 a_end in
-        let m : c.0 < e = takes inputs view (bind scope (site a) (Done c.0 c.1)) c.0 u e k c.4 in
-        first_one low (low + size (Then a u)) e (early_as (Runs scope s (Then a u)) low e (runs_here inputs view run vs low scope s (Then a u) n g) (omega arith, λ t d i. let y : At c.0 ≡ At d = sym a_end ∙ i in let z : c.0 ≡ d = cc in omega arith))
+        let by_chain_parts = chain_parts inputs view run (act_ends inputs view scope s a) (λ c v. ends inputs view (bind scope (site a) (Done c v)) c u) e q in
+        let a_end : of_outcome (act_ends inputs view scope s a) ≡ At by_chain_parts.0 = ap of_outcome by_chain_parts.2 in
+        let at_most : s ≤ by_chain_parts.0 = act_from inputs view scope s a by_chain_parts.0 a_end in
+        let is_less : by_chain_parts.0 < e = takes inputs view (bind scope (site a) (Done by_chain_parts.0 by_chain_parts.1)) by_chain_parts.0 u e k by_chain_parts.4 in
+        first_one low (low + size (Then a u)) e (early_as (Runs scope s (Then a u)) low e (runs_here inputs view run vs low scope s (Then a u) n g) (omega arith, λ t d i. let equal : At by_chain_parts.0 ≡ At d = sym a_end ∙ i in let next_equal : by_chain_parts.0 ≡ d = cc in omega arith))
         (joined (low + 1) (low + act_size a) (low + size (Then a u)) e
-        (λ q i j. from_ended e m (act_ended inputs view run vs low scope s a c.0 n.0 (then_inner inputs view run vs low scope s a u n g) a_end q i j))
-        (λ q i j. early (a ∷ vs) (low + act_size a) (bind scope (site a) (Done c.0 c.1)) c.0 u e n.1 k (then_rest_is inputs view run vs low scope s a u n g c.0 c.1 c.2 c.3) c.4 q i (omega arith)))
+        (λ q i j. from_ended e is_less (act_ended inputs view run vs low scope s a by_chain_parts.0 n.0 (then_inner inputs view run vs low scope s a u n g) a_end q i j))
+        (λ q i j. early (a ∷ vs) (low + act_size a) (bind scope (site a) (Done by_chain_parts.0 by_chain_parts.1)) by_chain_parts.0 u e n.1 k (then_rest_is inputs view run vs low scope s a u n g by_chain_parts.0 by_chain_parts.1 by_chain_parts.2 by_chain_parts.3) by_chain_parts.4 q i (omega arith)))
     early vs low scope s (Both a u) e n k g q =
-        let c = both_parts inputs view run (act_ends inputs view scope s a) (ends inputs view (bind scope (site a) (act_ends inputs view scope s a)) s u) e q in
-        let l : max c.0 c.1 ≡ e = c.4 in
-        let m : s < c.0 = act_takes inputs view scope s a c.0 k.0 c.2 in
+        let by_both_parts = both_parts inputs view run (act_ends inputs view scope s a) (ends inputs view (bind scope (site a) (act_ends inputs view scope s a)) s u) e q in
+        let last_equal : max by_both_parts.0 by_both_parts.1 ≡ e = by_both_parts.4 in
+        let next_is_less : s < by_both_parts.0 = act_takes inputs view scope s a by_both_parts.0 k.0 by_both_parts.2 in
         first_one low (low + size (Both a u)) e (early_as (Runs scope s (Both a u)) low e (runs_here inputs view run vs low scope s (Both a u) n g) (omega arith, λ t d i. absurd (not_talk a k.0 t)))
         (joined (low + 1) (low + act_size a) (low + size (Both a u)) e
-        (λ q i j. up e (omega arith) (act_early vs low scope s a c.0 n.0 k.0 (both_inner inputs view run vs low scope s a u n g) c.2 q i j))
-        (λ q i j. up e (omega arith) (early (a ∷ vs) (low + act_size a) (bind scope (site a) (act_ends inputs view scope s a)) s u c.1 n.1 k.1 (both_rest inputs view run vs low scope s a u n g) c.3 q i (omega arith))))
+        (λ q i j. up e (omega arith) (act_early vs low scope s a by_both_parts.0 n.0 k.0 (both_inner inputs view run vs low scope s a u n g) by_both_parts.2 q i j))
+        (λ q i j. up e (omega arith) (early (a ∷ vs) (low + act_size a) (bind scope (site a) (act_ends inputs view scope s a)) s u by_both_parts.1 n.1 k.1 (both_rest inputs view run vs low scope s a u n g) by_both_parts.3 q i (omega arith))))
 
     pub act_early : (vs : List Act) (low : ℕ) (scope : ℕ → Outcome) (s : ℕ) (a : Act) (e : ℕ) → NumberedAct vs low a → IsTailAct a → Agrees run (inside inputs view scope s a) (low + 1) (low + act_size a) → of_outcome (act_ends inputs view scope s a) ≡ At e → Each (low + 1) (low + act_size a) e
     act_early vs low scope s (If p f u v w) e n k g q i l m =

@@ -60,7 +60,7 @@ mutual
       pick_ne (site (head u)) (site a) _ _ (λ e. omega (arith, by_acts_in.0)) ∙ found_in s low n
   found_at {vs = vs} {u = u} (in_then {a = a} {t = t} s) low n =
       let further_equal : site a ≡ low = act_site vs low a n.0 in
-      let m : site (head t) ≡ low + act_size a = head_site _ _ t n.1 in
+      let second_equal : site (head t) ≡ low + act_size a = head_site _ _ t n.1 in
       let next_by_acts_in = acts_in s low n.0 in
       pick_lt (site (head u)) (site (head t)) _ _ (omega (arith, next_by_acts_in.1)) ∙ (pick_ne (site (head u)) (site a) _ _ (λ e. omega (arith, next_by_acts_in.0)) ∙ found_in s low n.0)
   found_at {vs = vs} {u = u} (in_both {a = a} {t = t} s) low n =

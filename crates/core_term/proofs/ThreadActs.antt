@@ -64,27 +64,27 @@ module _ (p : Process) (process : IsProcess p) (inputs : Inputs) (registers : �
 
   pub start : (turn place : ℕ) (b : At turn place) → (s : ℕ) × (begins inputs (sees registers) thread.body turn ≡ Some s) × (s ≤ b.begin) × (b.begin < inputs.count)
   start turn place b =
-      let z = place_of inputs (sees registers) thread.body numbered turn place b.scope b.begin b.term (ran inputs registers thread.body numbered turn place b) in
-      (z.0, z.2, z.3.fits.0, z.3.fits.1)
+      let by_place_of = place_of inputs (sees registers) thread.body numbered turn place b.scope b.begin b.term (ran inputs registers thread.body numbered turn place b) in
+      (by_place_of.0, by_place_of.2, by_place_of.3.fits.0, by_place_of.3.fits.1)
 
   -- nothing that is used rests on what comes later
   pub timely_scope : (turn place : ℕ) (b : At turn place) → Timely b.scope
   timely_scope turn place b =
-      let s = start turn place b in
-      let f : Found inputs (sees registers) (run_of inputs (sees registers) thread.body turn) thread.body s.0 (λ vs scope. Timely scope) (timely_on inputs registers (run_of inputs (sees registers) thread.body turn)) place =
-      sub inputs (sees registers) (run_of inputs (sees registers) thread.body turn) thread.body s.0 (λ vs scope. Timely scope) (timely_on inputs registers (run_of inputs (sees registers) thread.body turn)) place [] 0 no_variable s.0 thread.body numbered
-      (record { each = λ q l m. ap (λ o. run_from inputs (sees registers) thread.body o q) s.1 }) (λ y k. elim k [ ]) (λ ws u z. z) (λ y e v k. absurd cc) (omega arith, begins_short inputs (sees registers) thread.body numbered turn s.0 s.1) (omega arith)
-      (let l = (ran inputs registers thread.body numbered turn place b).inside in omega arith) in
-      let g = rw b.runs at f.is in
-      g.1.known
+      let by_start = start turn place b in
+      let the_found : Found inputs (sees registers) (run_of inputs (sees registers) thread.body turn) thread.body by_start.0 (λ vs scope. Timely scope) (timely_on inputs registers (run_of inputs (sees registers) thread.body turn)) place =
+      sub inputs (sees registers) (run_of inputs (sees registers) thread.body turn) thread.body by_start.0 (λ vs scope. Timely scope) (timely_on inputs registers (run_of inputs (sees registers) thread.body turn)) place [] 0 no_variable by_start.0 thread.body numbered
+      (record { each = λ q l m. ap (λ o. run_from inputs (sees registers) thread.body o q) by_start.1 }) (λ y k. elim k [ ]) (λ ws u z. z) (λ y e v k. absurd cc) (omega arith, begins_short inputs (sees registers) thread.body numbered turn by_start.0 by_start.1) (omega arith)
+      (let by_ran = (ran inputs registers thread.body numbered turn place b).inside in omega arith) in
+      let fact = rw b.runs at the_found.is in
+      fact.1.known
 
   -- what a used value rests on, in the text and in the turn
   pub rests : (turn place : ℕ) (b : At turn place) (e : Expr) → Uses (head b.term) e → (a : Atom) → Has (value registers b.scope b.begin e).atoms a → (c : Source) × RestsOn thread.body b.term c × Matches inputs (sees registers) (run_of inputs (sees registers) thread.body turn) c a
   rests turn place b e u a i =
-      let z = place_of inputs (sees registers) thread.body numbered turn place b.scope b.begin b.term (ran inputs registers thread.body numbered turn place b) in
-      let f : stage turn (Begin (site (head b.term))) ≡ occurs.At b.begin = rw (begun_site inputs registers thread.body numbered turn place b) (at_begin p process inputs registers j thread is turn place b) in
-      let c = (expr_covers inputs (sees registers) (run_of inputs (sees registers) thread.body turn) (sources_in z.1) b.scope (site (head b.term)) b.begin e f z.3.known).each a i in
-      (c.0, record { scope = z.1; stands = z.3.stands; value = e; uses = u; has = c.1 }, c.2)
+      let by_place_of = place_of inputs (sees registers) thread.body numbered turn place b.scope b.begin b.term (ran inputs registers thread.body numbered turn place b) in
+      let equal : stage turn (Begin (site (head b.term))) ≡ occurs.At b.begin = rw (begun_site inputs registers thread.body numbered turn place b) (at_begin p process inputs registers j thread is turn place b) in
+      let by_expr_covers = (expr_covers inputs (sees registers) (run_of inputs (sees registers) thread.body turn) (sources_in by_place_of.1) b.scope (site (head b.term)) b.begin e equal by_place_of.3.known).each a i in
+      (by_expr_covers.0, record { scope = by_place_of.1; stands = by_place_of.3.stands; value = e; uses = u; has = by_expr_covers.1 }, by_expr_covers.2)
 
   pub atom_by : (turn place : ℕ) (b : At turn place) (e : Expr) (a : Atom) → Has (value registers b.scope b.begin e).atoms a → cycle_of a ≤ b.begin
   atom_by turn place b e a i = value_up registers b.scope b.begin (timely_scope turn place b) e a i
@@ -113,32 +113,32 @@ module _ (p : Process) (process : IsProcess p) (inputs : Inputs) (registers : �
   -- an act of an earlier turn has ended by the begin of a later one, and a send or recv before it
   pub earlier : (turn k place : ℕ) (b : At turn place) (s : ℕ) → begins inputs (sees registers) thread.body (suc (k + turn)) ≡ Some s → (e : ℕ) × EndsIn b e × (e ≤ s) × (IsTalk (head b.term) → e < s)
   earlier turn k place b s f =
-      let z = later_turn inputs (sees registers) thread.body numbered turn k s f in
-      let o = some_start inputs (sees registers) thread.body numbered (begins inputs (sees registers) thread.body turn) place b.scope b.begin b.term b.runs in
-      let g = turn_end inputs (sees registers) thread.body numbered (begins inputs (sees registers) thread.body turn) o.0 z.0 o.1 z.2 in
-      let l = (ran inputs registers thread.body numbered turn place b).inside in
-      let y = ended_in inputs (sees registers) thread.body numbered turn place (begins inputs (sees registers) thread.body turn) o.0 z.0 o.1 g l in
-      let w = rw b.runs at y in
-      let e = end_found p process inputs registers j thread is turn place b w.0 (ap (end_at inputs (sees registers)) b.runs ∙ w.1) in
-      let P : Option ℕ → Type 0 = λ w. EarlyIn inputs (sees registers) (run_from inputs (sees registers) thread.body w) (run_from inputs (sees registers) thread.body w place) z.0 in
-      let y' = subst P (sym o.1) (early inputs (sees registers) (run_from inputs (sees registers) thread.body (Some o.0)) [] 0 no_variable o.0 thread.body z.0 numbered (process.takes_time j thread is) (record { each = λ q l m. refl }) g place (omega arith) (omega arith)).is in
+      let by_later_turn = later_turn inputs (sees registers) thread.body numbered turn k s f in
+      let by_some_start = some_start inputs (sees registers) thread.body numbered (begins inputs (sees registers) thread.body turn) place b.scope b.begin b.term b.runs in
+      let by_turn_end = turn_end inputs (sees registers) thread.body numbered (begins inputs (sees registers) thread.body turn) by_some_start.0 by_later_turn.0 by_some_start.1 by_later_turn.2 in
+      let by_ran = (ran inputs registers thread.body numbered turn place b).inside in
+      let by_ended_in = ended_in inputs (sees registers) thread.body numbered turn place (begins inputs (sees registers) thread.body turn) by_some_start.0 by_later_turn.0 by_some_start.1 by_turn_end by_ran in
+      let fact = rw b.runs at by_ended_in in
+      let by_end_found = end_found p process inputs registers j thread is turn place b fact.0 (ap (end_at inputs (sees registers)) b.runs ∙ fact.1) in
+      let Statement : Option ℕ → Type 0 = λ fact. EarlyIn inputs (sees registers) (run_from inputs (sees registers) thread.body fact) (run_from inputs (sees registers) thread.body fact place) by_later_turn.0 in
+      let y' = subst Statement (sym by_some_start.1) (early inputs (sees registers) (run_from inputs (sees registers) thread.body (Some by_some_start.0)) [] 0 no_variable by_some_start.0 thread.body by_later_turn.0 numbered (process.takes_time j thread is) (record { each = λ q by_ran m. refl }) by_turn_end place (omega arith) (omega arith)).is in
       let w' = rw b.runs at y' in
-      (w.0, e, omega (arith, w.2, z.1), λ t. let v = w'.1 t w.0 w.1 in omega (arith, z.1))
+      (fact.0, by_end_found, omega (arith, fact.2, by_later_turn.1), λ t. let by_w = w'.1 t fact.0 fact.1 in omega (arith, by_later_turn.1))
 
   -- a later turn as the second of two
   pub occurs_next : (turn k turn' : ℕ) → turn' ≡ suc (k + turn) → (spot : Spot) (t : ℕ) → stage turn' spot ≡ occurs.At t → Occurs inputs (sees registers) thread.body numbered turn k (point true spot) t
-  occurs_next turn k turn' e spot t f = let P : ℕ → Type 0 = λ z. stage z spot ≡ occurs.At t in subst P e f
+  occurs_next turn k turn' e spot t f = let next_Statement : ℕ → Type 0 = λ z. stage z spot ≡ occurs.At t in subst next_Statement e f
 
   pub stage_eq : (turn turn' : ℕ) → turn' ≡ turn → (spot : Spot) (t : ℕ) → stage turn' spot ≡ occurs.At t → stage turn spot ≡ occurs.At t
-  stage_eq turn turn' e spot t f = let P : ℕ → Type 0 = λ z. stage z spot ≡ occurs.At t in subst P e f
+  stage_eq turn turn' e spot t f = let last_Statement : ℕ → Type 0 = λ z. stage z spot ≡ occurs.At t in subst last_Statement e f
 
   -- an exchange of a port of the same endpoint ends an act of this thread
   pub own_end : (q m n t : ℕ) → ActOn thread.body q m → endpoint_of p n ≡ endpoint_of p m → Exchange (wires p inputs registers) n t → (turn place : ℕ) × (b : At turn place) × OnPort (head b.term) n × EndsIn b t
   own_end q m n t a e k =
-      let z = ended_by inputs registers p process n t k in
-      let o = z.0 in
-      let act = begun_act inputs registers o.thread.body (process.numbered o.j o.thread o.is) (λ a. OnPort a n) o.turn o.place o.act o.on in
-      let i : o.j ≡ j = sym (process.one_talker j o.j thread o.thread q o.place m n is o.is a act (sym e)) in
-      let f : o.thread ≡ thread = same_thread p.threads j o.thread thread (subst (λ z. IsThread p.threads z o.thread) i o.is) is in
-      let P : Thread → Type 0 = λ z. (turn place : ℕ) × (b : Begun inputs registers z.body turn place) × OnPort (head b.term) n × EndsIn b t in
-      subst P f (o.turn, o.place, o.act, o.on, z.1)
+      let by_ended_by = ended_by inputs registers p process n t k in
+      let then_ended_by = by_ended_by.0 in
+      let act = begun_act inputs registers then_ended_by.thread.body (process.numbered then_ended_by.j then_ended_by.thread then_ended_by.is) (λ a. OnPort a n) then_ended_by.turn then_ended_by.place then_ended_by.act then_ended_by.on in
+      let equal : then_ended_by.j ≡ j = sym (process.one_talker j then_ended_by.j thread then_ended_by.thread q then_ended_by.place m n is then_ended_by.is a act (sym e)) in
+      let next_equal : then_ended_by.thread ≡ thread = same_thread p.threads j then_ended_by.thread thread (subst (λ by_ended_by. IsThread p.threads by_ended_by then_ended_by.thread) equal then_ended_by.is) is in
+      let Statement : Thread → Type 0 = λ by_ended_by. (turn place : ℕ) × (b : Begun inputs registers by_ended_by.body turn place) × OnPort (head b.term) n × EndsIn b t in
+      subst Statement next_equal (then_ended_by.turn, then_ended_by.place, then_ended_by.act, then_ended_by.on, by_ended_by.1)

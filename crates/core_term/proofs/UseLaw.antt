@@ -122,8 +122,8 @@ module _ (p : Process) (process : IsProcess p) (inputs : Inputs) (registers : �
         go : (d : Bool) → nat_lt t c ≡ d → c ≤ t
         go true q =
             let next_is_less : t < c = grind (arith, nat_tests) in
-            let y = at_turn b.late (let Statement : Spot → Type 0 = λ next_is_less. Occurs inputs (sees registers) body numbered i k (point b.late next_is_less) t in subst Statement e.4 o) in
-            let by_text_begun = text_begun (λ a. OnPort a e.0) (turn_of i k b.late) e.1 t e.3 y in
+            let ended = at_turn b.late (let Statement : Spot → Type 0 = λ spot. Occurs inputs (sees registers) body numbered i k (point b.late spot) t in subst Statement e.4 o) in
+            let by_text_begun = text_begun (λ a. OnPort a e.0) (turn_of i k b.late) e.1 t e.3 ended in
             absurd (within_one (wires p inputs registers) s c (life_of p m) (Until e.0) n.1 e.2 t l next_is_less (exchange_of inputs registers p process e.0 t j thread is (turn_of i k b.late) e.1 by_text_begun.0 by_text_begun.1 by_text_begun.2))
         go false q = grind (arith, nat_tests)
 
