@@ -73,7 +73,7 @@ impl CoreThread {
     }
 
     /// How many acts the body has.
-    #[tactic(auto, using(crate::proofs::Counted::counted))]
+    #[tactic(auto, using(crate::proofs::code_tables::Counted::counted))]
     pub fn count(&self) -> u32
         ensures places { result ≡ length (places_of self.now) }
         ensures size { (widths : Widths) → result ≡ size (term_of widths self.now) }

@@ -22,7 +22,7 @@ use Rattle.elaborator.specs.Walk.{Plan, Drawn}
 use Rattle.elaborator.specs.Seen.{points_at, body_at, acts_of, body_of}
 use Rattle.elaborator.specs.Turns.{TurnIs, TurnDrawn, IsOnce, IsTwice}
 use Rattle.event_points.proofs.InTable.{body_told, body_begin, body_end}
-use Rattle.core_term.proofs.Counted.{counted}
+use Rattle.core_term.proofs.code_tables.Counted.{counted}
 use Rattle.event_points.proofs.Room.{few_nodes}
 use Rattle.elaborator.proofs.Plans.{term_early, delays_append}
 use Rattle.elaborator.proofs.SidePlans.{length_grown}

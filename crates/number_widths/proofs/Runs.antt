@@ -26,10 +26,10 @@ use Rattle.core_term.specs.Sized.{is_sized, is_owned, expr_fits, term_fits, act_
 use Rattle.core_term.specs.Fitting.{InputsFit}
 use Rattle.core_term.specs.Again.{now_in}
 use Rattle.core_term.specs.Reread.{Reread, IsReread, Begins, sight, deciding, again_at}
-use Rattle.core_term.proofs.Fits as fits
-use Rattle.core_term.proofs.Fits.{from_body, thread_of_all}
-use Rattle.core_term.proofs.Decide.{within}
-use Rattle.core_term.proofs.TurnRules.{obeys_rules}
+use Rattle.core_term.proofs.code_tables.Fits as fits
+use Rattle.core_term.proofs.code_tables.Fits.{from_body, thread_of_all}
+use Rattle.core_term.proofs.rereading.Decide.{within}
+use Rattle.core_term.proofs.turn_points.TurnRules.{obeys_rules}
 use Rattle.number_widths.specs.NumbersFit.{ResetsFit, NumbersFit}
 use Rattle.number_widths.proofs.Again.{Fits, Standing, standing}
 

@@ -8,7 +8,7 @@ use Rattle.core_term.specs.ProcessView.{port_of}
 use Rattle.core_term.specs.Rows.{nth_cell, cell_fits, cells_fit}
 use Rattle.core_term.specs.Term.{Act, site}
 use Rattle.core_term.specs.Widths.{Widths}
-use Rattle.core_term.proofs.Offers.{and_second}
+use Rattle.core_term.proofs.source_runs.Offers.{and_second}
 use Rattle.sim_laws.specs.declared.act_state.ActState.{ActState}
 use Rattle.source_sim.specs.declared.now.Now.{Now}
 use Rattle.sim_laws.specs.Advance.{state_at, advance_act, visit}

@@ -1,5 +1,5 @@
 use Rattle.std.proofs.Common.{sym, subst}
-use Rattle.core_term.proofs.CountingAccepted.{Counts, one_thread}
+use Rattle.core_term.proofs.examples.CountingAccepted.{Counts, one_thread}
 use Rattle.core_term.proofs.accepted_example.accepted_counter.Goals as goal
 
 pub of-requires-3 : goal.of-requires-3

@@ -1,4 +1,4 @@
-use Rattle.core_term.proofs.SameLogs.{same_log}
+use Rattle.core_term.proofs.rereading.SameLogs.{same_log}
 use Rattle.core_term.proofs.agreement.logs_are_same.Goals as goal
 
 pub returns : goal.returns

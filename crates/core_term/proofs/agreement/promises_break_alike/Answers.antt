@@ -1,4 +1,4 @@
-use Rattle.core_term.proofs.Breaks.{breaks_alike}
+use Rattle.core_term.proofs.rereading.Breaks.{breaks_alike}
 use Rattle.core_term.proofs.agreement.promises_break_alike.Goals as goal
 
 pub returns : goal.returns

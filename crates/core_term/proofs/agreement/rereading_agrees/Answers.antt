@@ -1,4 +1,4 @@
-use Rattle.core_term.proofs.Agreed.{agrees}
+use Rattle.core_term.proofs.rereading.Agreed.{agrees}
 use Rattle.core_term.proofs.agreement.rereading_agrees.Goals as goal
 
 pub returns : goal.returns

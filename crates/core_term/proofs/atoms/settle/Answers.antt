@@ -1,6 +1,6 @@
 -- Sorted and without repeats: the settled list.
-use Rattle.core_term.proofs.AtomOrder.{ascending, still_has, only_has}
-use Rattle.core_term.proofs.Settled.{is_settled}
+use Rattle.core_term.proofs.code_tables.AtomOrder.{ascending, still_has, only_has}
+use Rattle.core_term.proofs.code_tables.Settled.{is_settled}
 use Rattle.core_term.proofs.atoms.settle.Goals as goal
 
 pub returns : goal.returns

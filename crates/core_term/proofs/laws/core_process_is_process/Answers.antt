@@ -1,4 +1,4 @@
-use Rattle.core_term.proofs.Fits.{is_process}
+use Rattle.core_term.proofs.code_tables.Fits.{is_process}
 use Rattle.core_term.proofs.laws.core_process_is_process.Goals as goal
 
 pub returns : goal.returns

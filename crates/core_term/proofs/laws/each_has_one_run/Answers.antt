@@ -1,7 +1,7 @@
 use Rattle.std.proofs.Common.{arith}
 use Rattle.core_term.specs.History.{history}
-use Rattle.core_term.proofs.Exists.{is_history, same_rows}
-use Rattle.core_term.proofs.SameRuns.{registers_same}
+use Rattle.core_term.proofs.source_runs.Exists.{is_history, same_rows}
+use Rattle.core_term.proofs.source_runs.SameRuns.{registers_same}
 use Rattle.core_term.proofs.laws.each_has_one_run.Goals as goal
 
 pub returns : goal.returns

@@ -1,5 +1,5 @@
-use Rattle.core_term.proofs.SameRuns.{registers_same}
-use Rattle.core_term.proofs.SameWires.{wires_same}
+use Rattle.core_term.proofs.source_runs.SameRuns.{registers_same}
+use Rattle.core_term.proofs.source_runs.SameWires.{wires_same}
 use Rattle.core_term.proofs.laws.runs_agree_while_rows_do.Goals as goal
 
 pub returns : goal.returns

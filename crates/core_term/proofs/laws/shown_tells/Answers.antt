@@ -1,4 +1,4 @@
-use Rattle.core_term.proofs.Shown.{shown_is, is_shown_from}
+use Rattle.core_term.proofs.source_runs.Shown.{shown_is, is_shown_from}
 use Rattle.core_term.proofs.laws.shown_tells.Goals as goal
 
 pub returns : goal.returns

@@ -1,7 +1,7 @@
 use Rattle.std.proofs.Common.{IsTrue, subst, sym}
 use Rattle.core_term.specs.ProcessView.{port_of}
 use Rattle.core_term.specs.Sized.{port_fits}
-use Rattle.core_term.proofs.Ports.{list_all_get}
+use Rattle.core_term.proofs.code_tables.Ports.{list_all_get}
 use Rattle.core_term.proofs.rows.zero_cells_of.Goals as goal
 
 pub no_cell-requires : goal.no_cell-requires

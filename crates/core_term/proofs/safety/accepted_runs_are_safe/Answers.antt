@@ -1,4 +1,4 @@
-use Rattle.core_term.proofs.SafeRun.{safe}
+use Rattle.core_term.proofs.safe_runs.SafeRun.{safe}
 use Rattle.core_term.proofs.safety.accepted_runs_are_safe.Goals as goal
 
 pub returns : goal.returns

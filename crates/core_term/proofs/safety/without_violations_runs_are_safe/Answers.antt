@@ -1,4 +1,4 @@
-use Rattle.core_term.proofs.SafeRun.{safe, no_violations}
+use Rattle.core_term.proofs.safe_runs.SafeRun.{safe, no_violations}
 use Rattle.core_term.proofs.safety.without_violations_runs_are_safe.Goals as goal
 
 pub returns : goal.returns

@@ -1,5 +1,5 @@
-use Rattle.core_term.proofs.Told.{decided}
-use Rattle.core_term.proofs.OfText.{of_text}
+use Rattle.core_term.proofs.graph_tables.Told.{decided}
+use Rattle.core_term.proofs.graph_tables.OfText.{of_text}
 use Rattle.core_term.proofs.tables.demands_are_decided.Goals as goal
 
 pub returns : goal.returns

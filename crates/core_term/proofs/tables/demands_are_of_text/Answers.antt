@@ -1,4 +1,4 @@
-use Rattle.core_term.proofs.OfText.{of_text}
+use Rattle.core_term.proofs.graph_tables.OfText.{of_text}
 use Rattle.core_term.proofs.tables.demands_are_of_text.Goals as goal
 
 pub returns : goal.returns

@@ -1,4 +1,4 @@
-use Rattle.core_term.proofs.Told.{tables}
+use Rattle.core_term.proofs.graph_tables.Told.{tables}
 use Rattle.core_term.proofs.tables.graphs_have_tables.Goals as goal
 
 pub returns : goal.returns

@@ -1,4 +1,4 @@
-use Rattle.core_term.proofs.Told.{shown, told}
+use Rattle.core_term.proofs.graph_tables.Told.{shown, told}
 use Rattle.core_term.proofs.tables.tables_tell_claims.Goals as goal
 
 pub returns : goal.returns

@@ -1,4 +1,4 @@
-use Rattle.core_term.proofs.TurnRules.{obeys_rules}
+use Rattle.core_term.proofs.turn_points.TurnRules.{obeys_rules}
 use Rattle.core_term.proofs.turns.every_point_obeys_its_rule.Goals as goal
 
 pub returns : goal.returns

@@ -1,4 +1,4 @@
-use Rattle.core_term.proofs.TurnTails.{last}
+use Rattle.core_term.proofs.turn_points.TurnTails.{last}
 use Rattle.core_term.proofs.turns.last_law.Goals as goal
 
 pub returns : goal.returns

@@ -1,4 +1,4 @@
-use Rattle.core_term.proofs.TurnTails.{ordered}
+use Rattle.core_term.proofs.turn_points.TurnTails.{ordered}
 use Rattle.core_term.proofs.turns.order_law.Goals as goal
 
 pub returns : goal.returns

@@ -1,4 +1,4 @@
-use Rattle.core_term.proofs.TurnTails.{tailed}
+use Rattle.core_term.proofs.turn_points.TurnTails.{tailed}
 use Rattle.core_term.proofs.turns.tails.Goals as goal
 
 pub returns : goal.returns

@@ -2,7 +2,7 @@
 use Rattle.std.proofs.Common.{IsTrue, subst, sym}
 use Rattle.core_term.specs.ProcessView.{port_of}
 use Rattle.core_term.specs.Sized.{port_fits}
-use Rattle.core_term.proofs.Ports.{list_all_get}
+use Rattle.core_term.proofs.code_tables.Ports.{list_all_get}
 use Rattle.source_sim.proofs.start.start_latests.Goals as goal
 
 pub start_latest-requires : goal.start_latest-requires

@@ -1,7 +1,7 @@
 use Rattle.std.proofs.Common.{subst}
 use Rattle.core_term.specs.declared.process.CoreFile.{CoreFile}
 use Rattle.core_term.specs.AcceptedFile.{file_of, AllRunSafely}
-use Rattle.core_term.proofs.AllSafe.{all_safe}
+use Rattle.core_term.proofs.safe_runs.AllSafe.{all_safe}
 use Rattle.core_term.proofs.accepted.Accepted.file.Goals as goal
 
 pub returns-clause-safe : goal.returns-clause-safe

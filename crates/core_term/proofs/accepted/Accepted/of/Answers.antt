@@ -3,8 +3,8 @@ use Rattle.std.proofs.lemmas.List.{take_all}
 use Rattle.core_term.specs.Lists.{Has}
 use Rattle.core_term.specs.Process.{IsProcess}
 use Rattle.core_term.specs.AcceptedFile.{process_in}
-use Rattle.core_term.proofs.Ports.{has_more}
-use Rattle.core_term.proofs.AllSafe.{all_safe}
+use Rattle.core_term.proofs.code_tables.Ports.{has_more}
+use Rattle.core_term.proofs.safe_runs.AllSafe.{all_safe}
 use Rattle.core_term.proofs.accepted.Accepted.of.Goals as goal
 
 pub loop-proc-preserved : goal.loop-proc-preserved

@@ -2,7 +2,7 @@ use Rattle.std.proofs.Common.{◌≡◌, arith, length, map, ap, sym, ◌∙◌,
 use Rattle.std.specs.List.{slice_get}
 use Rattle.core_term.specs.Process.{nth_port}
 use Rattle.core_term.specs.ProcessView.{port_of, end_of_life}
-use Rattle.core_term.proofs.Ports.{end_at, one_end}
+use Rattle.core_term.proofs.code_tables.Ports.{end_at, one_end}
 use Rattle.core_term.proofs.process.CoreProc.end.Goals as goal
 
 pub returns : goal.returns

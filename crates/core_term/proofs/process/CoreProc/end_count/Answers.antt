@@ -1,4 +1,4 @@
-use Rattle.core_term.proofs.Ports.{one_end}
+use Rattle.core_term.proofs.code_tables.Ports.{one_end}
 use Rattle.core_term.proofs.process.CoreProc.end_count.Goals as goal
 
 pub returns : goal.returns

@@ -2,8 +2,8 @@ use Rattle.std.proofs.Common.{inl, inr, sym, subst, ◌∙◌}
 use Rattle.std.proofs.lemmas.List.{take_all}
 use Rattle.core_term.specs.Lists.{Has}
 use Rattle.core_term.specs.Body.{IsBody}
-use Rattle.core_term.proofs.Ports.{has_more}
-use Rattle.core_term.proofs.Fits.{is_process}
+use Rattle.core_term.proofs.code_tables.Ports.{has_more}
+use Rattle.core_term.proofs.code_tables.Fits.{is_process}
 use Rattle.core_term.proofs.process.CoreProc.stands.Goals as goal
 
 pub loop-thread-preserved : goal.loop-thread-preserved

@@ -2,7 +2,7 @@ use Rattle.std.proofs.Common.{IsTrue, subst, sym, map}
 use Rattle.std.specs.List.{list_all}
 use Rattle.core_term.specs.ProcessView.{port_of}
 use Rattle.core_term.specs.Sized.{port_fits, register_fits}
-use Rattle.core_term.proofs.Ports.{ports_fit, registers_fit}
+use Rattle.core_term.proofs.code_tables.Ports.{ports_fit, registers_fit}
 use Rattle.core_term.proofs.rows.OutRow.for_proc.Goals as goal
 
 pub zero_cells_of-requires : goal.zero_cells_of-requires

@@ -1,7 +1,7 @@
 -- A row that is put is put into the table.
 use Rattle.std.proofs.Common.{◌<◌, ◌≤◌, arith, sym, ◌∙◌, ap, length}
 use Rattle.core_term.specs.AtomTables.{put_row}
-use Rattle.core_term.proofs.TableRows.{put_inside, put_outside}
+use Rattle.core_term.proofs.code_tables.TableRows.{put_inside, put_outside}
 use Rattle.core_term.proofs.table.AtomTable.put.Goals as goal
 
 pub returns-then-place-len : goal.returns-then-place-len

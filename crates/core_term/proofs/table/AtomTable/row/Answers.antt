@@ -1,7 +1,7 @@
 -- A row of the code is that of the table.
 use Rattle.std.proofs.Common.{sym, ◌∙◌, ap, map}
 use Rattle.core_term.specs.AtomTables.{row_at}
-use Rattle.core_term.proofs.TableRows.{row_inside, row_outside}
+use Rattle.core_term.proofs.code_tables.TableRows.{row_inside, row_outside}
 use Rattle.core_term.proofs.table.AtomTable.row.Goals as goal
 
 pub returns-in-Some : goal.returns-in-Some

@@ -1,5 +1,5 @@
 -- The row that the thread keeps for the site.
-use Rattle.core_term.proofs.AtomsKept.{use_told}
+use Rattle.core_term.proofs.code_tables.AtomsKept.{use_told}
 use Rattle.core_term.proofs.thread.CoreThread.use_atoms.Goals as goal
 
 pub returns : goal.returns

@@ -1,5 +1,5 @@
 -- The row that the thread keeps for the site.
-use Rattle.core_term.proofs.AtomsKept.{value_told}
+use Rattle.core_term.proofs.code_tables.AtomsKept.{value_told}
 use Rattle.core_term.proofs.thread.CoreThread.value_atoms.Goals as goal
 
 pub returns : goal.returns

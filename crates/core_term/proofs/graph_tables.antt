@@ -1,0 +1,3 @@
+-- What tables of a graph tell of demands.
+pub mod Told
+pub mod OfText

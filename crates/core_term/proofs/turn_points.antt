@@ -1,0 +1,19 @@
+-- What becomes of the points of a turn: local rules, the order law, the last law and tails.
+pub mod NotBefore
+pub mod Idle
+pub mod Live
+pub mod Parts
+pub mod Exclude
+pub mod Order
+pub mod Sites
+pub mod Tails
+pub mod Done
+pub mod Text
+pub mod Sound
+pub mod Timely
+pub mod Strict
+pub mod Placed
+pub mod Bounds
+pub mod Formed
+pub mod TurnRules
+pub mod TurnTails
