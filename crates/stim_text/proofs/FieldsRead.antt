@@ -62,7 +62,7 @@ field_read port text found is = by_case port.received refl is
     by_case true side is = received_read port text found side is
     by_case false side is = sent_read port text found side is
 
-below_power : (width number : ℕ) → width ≤ 64 → number < 2 ^ width → number < 2 ^ 64
+pub below_power : (width number : ℕ) → width ≤ 64 → number < 2 ^ width → number < 2 ^ 64
 below_power width number few below = let larger : 2 ^ width ≤ 2 ^ 64 = pow-le-pow_right (omega arith) few in omega arith
 
 pub field_back : (port : Port) (cell : InCell) (rest : List ℕ) → is_width port.width ≡ true → cell_fits port cell ≡ true → StopsFirst rest → field_at port.received port.width (field_text cell ++ rest) ≡ Some (cell, rest)

@@ -4,6 +4,7 @@ pub mod PiecesRead
 pub mod FieldsRead
 pub mod LinesCut
 pub mod StimulusRead
+pub mod OneStimulus
 pub mod RowsSeen
 pub mod WatchSteps
 pub mod LogLines

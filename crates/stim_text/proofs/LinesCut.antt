@@ -26,7 +26,7 @@ and_no false b off = refl
 lines_ahead : (byte : ℕ) (rest : List ℕ) → (byte == 10) ≡ false → ((byte == 13) && begins_with_feed rest) ≡ false → lines_of (byte ∷ rest) ≡ ahead byte (lines_of rest)
 lines_ahead byte rest no_feed no_return = rw (no_feed, no_return) refl
 
-lines_by_feed : (front rest : List ℕ) → Quiet front → lines_of (front ++ 10 ∷ rest) ≡ without_return front ∷ lines_of rest
+pub lines_by_feed : (front rest : List ℕ) → Quiet front → lines_of (front ++ 10 ∷ rest) ≡ without_return front ∷ lines_of rest
 lines_by_feed [] rest quiet = refl
 lines_by_feed (byte ∷ []) rest quiet = rw (not_feed byte quiet.0) (by_case (byte == 13))
   where
@@ -36,7 +36,7 @@ lines_by_feed (byte ∷ []) rest quiet = rw (not_feed byte quiet.0) (by_case (by
 lines_by_feed (byte ∷ next ∷ front) rest quiet =
     lines_ahead byte (next ∷ (front ++ 10 ∷ rest)) (not_feed byte quiet.0) (and_no (byte == 13) (next == 10) (not_feed next quiet.1.0)) ∙ ap (ahead byte) (lines_by_feed (next ∷ front) rest quiet.1)
 
-lines_of_piece : (byte : ℕ) (rest : List ℕ) → Quiet (byte ∷ rest) → lines_of (byte ∷ rest) ≡ (byte ∷ rest) ∷ []
+pub lines_of_piece : (byte : ℕ) (rest : List ℕ) → Quiet (byte ∷ rest) → lines_of (byte ∷ rest) ≡ (byte ∷ rest) ∷ []
 lines_of_piece byte [] quiet = lines_ahead byte [] (not_feed byte quiet.0) (and_no (byte == 13) false refl)
 lines_of_piece byte (next ∷ rest) quiet =
     lines_ahead byte (next ∷ rest) (not_feed byte quiet.0) (and_no (byte == 13) (next == 10) (not_feed next quiet.1.0)) ∙ ap (ahead byte) (lines_of_piece next rest quiet.1)

@@ -86,7 +86,7 @@ digits_pass : (digits : List ℕ) → AllDigits 10 digits → AllPass digits
 digits_pass [] all = tt
 digits_pass (d ∷ digits) all = (digit_passes d all.0, digits_pass digits all.1)
 
-decimal_passes : (n : ℕ) → n < 2 ^ 64 → AllPass (decimal n)
+pub decimal_passes : (n : ℕ) → n < 2 ^ 64 → AllPass (decimal n)
 decimal_passes n small = digits_pass (decimal n) (decimal_is_IsNumeral n small).0.1
 
 -- Numbers.

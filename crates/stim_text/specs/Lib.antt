@@ -4,6 +4,7 @@ pub mod Cut
 pub mod Answers
 pub mod Answered
 pub mod Refused
+pub mod OneStimulus
 pub mod Seen
 pub mod Watching
 pub mod Pieces
