@@ -5,3 +5,5 @@
 mod graphs;
 #[cfg(test)]
 mod lags;
+#[cfg(test)]
+mod lives;
