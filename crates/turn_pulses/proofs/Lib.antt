@@ -1,0 +1,11 @@
+pub mod Reflects
+pub mod Windows
+pub mod Occurrences
+pub mod Local
+pub mod Delays
+pub mod Joins
+pub mod JoinBits
+pub mod Pulses
+pub mod Counters
+pub mod Latest
+pub mod Newest
