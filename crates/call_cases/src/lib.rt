@@ -6,6 +6,8 @@ mod accepted;
 #[cfg(test)]
 mod classes;
 #[cfg(test)]
+mod nets;
+#[cfg(test)]
 mod processes;
 #[cfg(test)]
 mod runs;
