@@ -1,7 +1,7 @@
 //! A file of one class is read: that a call can succeed is no clause.
-use channel_classes::read_classes;
 use anvil_lexer::Name;
 use anvil_tree::{Chan, File, Item, LifeText, Message, Side};
+use channel_classes::read_classes;
 use std::test::Fail;
 
 #[test]

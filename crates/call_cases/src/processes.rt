@@ -1,9 +1,9 @@
 //! A file of one process is read: that a call can succeed is no clause.
-use width_check::resolve;
 use anvil_lexer::Name;
 use anvil_tree::{Act, ActKind, Expr, ExprKind, File, Item, Proc, Register, Term};
 use channel_classes::read_classes;
 use std::test::Fail;
+use width_check::resolve;
 
 #[test]
 fn reads_one_process(rt: HostRuntime) -> Result<(), Fail> {

@@ -1,8 +1,8 @@
 //! A counter, run for some cycles. The wanted values are worked out by hand: it adds in cycle 0, waits for two cycles, and adds
 //! again in cycle 3; what it sets is shown one cycle later.
-use source_sim::{OutRow, Row, Sim};
 use anvil_bits::Bits;
 use core_term::example::counting_process;
+use source_sim::{OutRow, Row, Sim};
 use std::test::Fail;
 
 #[test]

@@ -1,8 +1,8 @@
 //! A stimulus of an exchanger is read, with values written out by hand; each call that takes memory meets none that is refused.
 use crate::samples::exchanger;
-use stim_text::{InCell, StimErr, Watch, read_stim};
 use anvil_bits::Bits;
 use std::test::Fail;
+use stim_text::{InCell, StimErr, Watch, read_stim};
 
 #[test]
 fn a_carriage_return_and_a_last_piece_are_read(rt: HostRuntime) -> Result<(), Fail> {

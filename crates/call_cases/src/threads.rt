@@ -9,7 +9,10 @@ fn a_thread_knows_its_acts_and_their_places(rt: HostRuntime) -> Result<(), Alloc
     assert_eq!(rt; thread.count(), 2);
     assert_eq!(rt; thread.place(1), 0);
     assert_eq!(rt; thread.value_atoms(0).len(), 0);
-    assert_eq!(rt; thread.use_atoms(0), [SourceAtom::Reg { site: 0, reg: 0 }].as_slice());
+    assert_eq!(rt;
+        thread.use_atoms(0),
+        [SourceAtom::Reg { site: 0, reg: 0 }].as_slice()
+    );
     assert_eq!(rt; thread.use_atoms(1).len(), 0);
     Ok(())
 }
