@@ -6,4 +6,6 @@ mod bench;
 #[cfg(test)]
 mod compile;
 #[cfg(test)]
+mod names;
+#[cfg(test)]
 mod refused;

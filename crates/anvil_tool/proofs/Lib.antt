@@ -1,6 +1,7 @@
 -- The modules of the processes of a file.
 pub mod Described
 -- Which refusal bytes have, and that they have one at most.
+pub mod Checks
 pub mod Refusals
 pub mod OneRefusal
 -- The text of the modules.

@@ -78,7 +78,7 @@ passes told file bytes text given output = record {
   goes_on = record {
     file = output.describe.file;
     counters = output.describe.describe.counters;
-    text = output.describe.spelled;
+    spelled = output.describe.spelled;
     plain = output.describe.describe.plain;
   };
 }

@@ -1,7 +1,8 @@
 -- Bytes have one refusal at most, and none where they spell a plain file.
 --
 -- The claim: two refusals of the same bytes are the same, and bytes with a refusal are not plain. The argument: bytes have one
--- list of tokens or one first fault; tokens are one file, or have first refusals of one code at one place, and not both.
+-- list of tokens or one first fault; tokens are one file, or have first refusals of one code at one place, and not both; a file
+-- passes its checks, or one of them is the first to fail.
 use Rattle.std.proofs.Common.{◌≡◌, ◌∙◌, ℕ, List, ap, arith, refl, sym, subst}
 use Rattle.std.proofs.lemmas.Str.{utf8_valid_len-IsValidUpTo}
 use Rattle.anvil_lexer.specs.declared.token.Token.{Token}
@@ -14,10 +15,13 @@ use Rattle.anvil_grammar.specs.declared.error.ParseErr.TheVariants as parser
 use Rattle.anvil_grammar.specs.Refusal.{IsAccepted, IsRefusal, IsFirstRefusal, IsSameRefusal}
 use Rattle.anvil_grammar.proofs.Refused.Refusals.{accepted_has_no_refusal, first_refusals_same}
 use Rattle.anvil_grammar.proofs.Walked.OneTree.{one_tree}
+use Rattle.anvil_tree.specs.Tree.{File}
 use Rattle.plain_file.specs.Plain.{IsPlainFile}
 use Rattle.anvil_tool.specs.declared.refusal.Refusal.{Refusal}
-use Rattle.anvil_tool.specs.Refused.{IsRefused, by_lexer, by_parser, by_builder, of_lexer, of_parser}
+use Rattle.anvil_tool.specs.FileText.{IsFileText, IsCheckedText}
+use Rattle.anvil_tool.specs.Refused.{IsUnread, by_lexer, by_parser, IsUnchecked, IsFileRefused, unread, unchecked, IsRefused, by_file, by_builder, of_lexer, of_parser}
 use Rattle.anvil_tool.specs.Stages.{IsPlainText}
+use Rattle.anvil_tool.proofs.Checks.{checked_or_unchecked, unchecked_once}
 
 -- one list of tokens
 pub same_tokens : (bytes : List ℕ) (tokens others : List Token) → IsTokenText bytes tokens → IsTokenText bytes others → tokens ≡ others
@@ -72,32 +76,49 @@ same_told tokens (parser.TooMany kind at) (parser.TooMany sort other) first seco
 same_told tokens (parser.TooMany kind at) parser.NoMemory first second same = absurd second
 same_told tokens parser.NoMemory other first second same = absurd first
 
--- one refusal
-pub refused_once : (bytes : List ℕ) (one other : Refusal) → IsRefused bytes one → IsRefused bytes other → one ≡ other
-refused_once bytes one other (by_lexer fault first) (by_lexer found second) = ap of_lexer (same_fault bytes fault found first second)
-refused_once bytes one other (by_lexer fault first) (by_parser tokens found spelled second) = absurd (no_fault bytes tokens fault spelled first)
-refused_once bytes one other (by_lexer fault first) (by_builder file text not_plain) = absurd (no_fault bytes text.tokens fault text.spelled first)
-refused_once bytes one other (by_parser tokens fault spelled first) (by_lexer found second) = absurd (no_fault bytes tokens found spelled second)
-refused_once bytes one other (by_parser tokens fault spelled first) (by_parser others found spelled_too second) =
+-- bytes that spell no file have one refusal
+pub unread_once : (bytes : List ℕ) (one other : Refusal) → IsUnread bytes one → IsUnread bytes other → one ≡ other
+unread_once bytes one other (by_lexer fault first) (by_lexer found second) = ap of_lexer (same_fault bytes fault found first second)
+unread_once bytes one other (by_lexer fault first) (by_parser tokens found spelled second) = absurd (no_fault bytes tokens fault spelled first)
+unread_once bytes one other (by_parser tokens fault spelled first) (by_lexer found second) = absurd (no_fault bytes tokens found spelled second)
+unread_once bytes one other (by_parser tokens fault spelled first) (by_parser others found spelled_too second) =
     let same : IsFirstRefusal tokens found = subst (λ list. IsFirstRefusal list found) (sym (same_tokens bytes tokens others spelled spelled_too)) second in
     same_told tokens fault found first.is same.is (first_refusals_same tokens fault found first same)
-refused_once bytes one other (by_parser tokens fault spelled first) (by_builder file text not_plain) =
-    absurd
-    (accepted_has_no_refusal tokens file fault (subst (λ list. IsAccepted list file) (sym (same_tokens bytes tokens text.tokens spelled text.spelled)) text.accepted) first.is)
-refused_once bytes one other (by_builder file text not_plain) (by_lexer found second) = absurd (no_fault bytes text.tokens found text.spelled second)
-refused_once bytes one other (by_builder file text not_plain) (by_parser tokens found spelled second) =
-    absurd
-    (accepted_has_no_refusal tokens file found (subst (λ list. IsAccepted list file) (sym (same_tokens bytes tokens text.tokens spelled text.spelled)) text.accepted) second.is)
+
+-- and spell no file
+pub file_or_unread : (bytes : List ℕ) (file : File) (refusal : Refusal) → IsFileText bytes file → IsUnread bytes refusal → ⊥
+file_or_unread bytes file refusal text (by_lexer fault first) = no_fault bytes text.tokens fault text.spelled first
+file_or_unread bytes file refusal text (by_parser tokens fault spelled first) =
+    accepted_has_no_refusal tokens file fault (subst (λ list. IsAccepted list file) (sym (same_tokens bytes tokens text.tokens spelled text.spelled)) text.accepted) first.is
+
+-- bytes spell one file
+pub one_file : (bytes : List ℕ) (file other : File) → IsFileText bytes file → IsFileText bytes other → file ≡ other
+one_file bytes file other text text_too =
+    let accepted : IsAccepted text.tokens other = subst (λ list. IsAccepted list other) (sym (same_tokens bytes text.tokens text_too.tokens text.spelled text_too.spelled)) text_too.accepted in
+    one_tree text.tokens file other text.accepted.is accepted.is
+
+-- one refusal of each file
+pub file_refused_once : (bytes : List ℕ) (one other : Refusal) → IsFileRefused bytes one → IsFileRefused bytes other → one ≡ other
+file_refused_once bytes one other (unread told first) (unread found second) = unread_once bytes one other first second
+file_refused_once bytes one other (unread told first) (unchecked file found text second) = absurd (file_or_unread bytes file one text first)
+file_refused_once bytes one other (unchecked file told text first) (unread found second) = absurd (file_or_unread bytes file other text second)
+file_refused_once bytes one other (unchecked file told text first) (unchecked file_too found text_too second) =
+    unchecked_once file one other first (subst (λ f. IsUnchecked f other) (sym (one_file bytes file file_too text text_too)) second)
+
+-- and none where the bytes spell a file that passes
+pub checked_or_refused : (bytes : List ℕ) (file : File) (refusal : Refusal) → IsCheckedText bytes file → IsFileRefused bytes refusal → ⊥
+checked_or_refused bytes file refusal text (unread told first) = file_or_unread bytes file refusal text.spelled first
+checked_or_refused bytes file refusal text (unchecked found told found_text first) =
+    checked_or_unchecked file refusal text.checked (subst (λ f. IsUnchecked f refusal) (sym (one_file bytes file found text.spelled found_text)) first)
+
+-- the same of what `compile` refuses
+pub refused_once : (bytes : List ℕ) (one other : Refusal) → IsRefused bytes one → IsRefused bytes other → one ≡ other
+refused_once bytes one other (by_file told first) (by_file found second) = file_refused_once bytes one other first second
+refused_once bytes one other (by_file told first) (by_builder file text not_plain) = absurd (checked_or_refused bytes file one text first)
+refused_once bytes one other (by_builder file text not_plain) (by_file found second) = absurd (checked_or_refused bytes file other text second)
 refused_once bytes one other (by_builder file text not_plain) (by_builder file_too text_too not_plain_too) = refl
 
--- and none where the bytes are plain
 pub plain_or_refused : (bytes : List ℕ) (refusal : Refusal) → IsRefused bytes refusal → IsPlainText bytes → ⊥
-plain_or_refused bytes refusal (by_lexer fault first) plain = no_fault bytes plain.text.tokens fault plain.text.spelled first
-plain_or_refused bytes refusal (by_parser tokens fault spelled first) plain =
-    accepted_has_no_refusal tokens plain.file fault
-    (subst (λ list. IsAccepted list plain.file) (sym (same_tokens bytes tokens plain.text.tokens spelled plain.text.spelled)) plain.text.accepted) first.is
+plain_or_refused bytes refusal (by_file told first) plain = checked_or_refused bytes plain.file refusal plain.spelled first
 plain_or_refused bytes refusal (by_builder file text not_plain) plain =
-    let accepted : IsAccepted text.tokens plain.file =
-    subst (λ list. IsAccepted list plain.file) (sym (same_tokens bytes text.tokens plain.text.tokens text.spelled plain.text.spelled)) plain.text.accepted in
-    let same : plain.file ≡ file = one_tree text.tokens plain.file file accepted.is text.accepted.is in
-    not_plain plain.counters (subst (IsPlainFile plain.counters) same plain.plain)
+    not_plain plain.counters (subst (IsPlainFile plain.counters) (one_file bytes plain.file file plain.spelled.spelled text.spelled) plain.plain)

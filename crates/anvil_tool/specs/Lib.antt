@@ -1,7 +1,8 @@
--- What the words are, what a file's modules are, why a file has none, what a command's stages do, and what each
--- answer tells: read in this order.
+-- What the words are, which bytes spell a file, what its modules are, why it has none, what a command's stages do, and
+-- what each answer tells: read in this order.
 pub mod Form
 pub mod Seen
+pub mod FileText
 pub mod Output
 pub mod Refused
 pub mod Stages

@@ -1,10 +1,7 @@
--- What is written for a file.
+-- What `compile` writes for a file.
 use Rattle.std.specs.Prelude.{ℕ, List}
 use Rattle.std.specs.List.{AllZip}
-use Rattle.anvil_lexer.specs.declared.token.Token.{Token}
-use Rattle.anvil_lexer.specs.TokenText.{IsTokenText}
 use Rattle.anvil_tree.specs.Tree.{File}
-use Rattle.anvil_grammar.specs.Refusal.{IsAccepted}
 use Rattle.plain_file.specs.Plain.{Counter, IsPlainFile}
 use Rattle.sv_tree.specs.Module.{Module}
 use Rattle.sv_tree.specs.WellFormed.{IsWellFormed}
@@ -13,12 +10,7 @@ use Rattle.core_term.specs.Process.{Process}
 use Rattle.fsm_builder.specs.ModuleOf.{IsModuleOf}
 use Rattle.fsm_builder.specs.Meaning.{ShowsTheRun}
 use Rattle.fsm_builder.specs.Counting.{counting_process, IsWithinStateBits}
-
--- bytes that spell the file: by their tokens, which are that file and within all limits
-pub record IsFileText (bytes : List ℕ) (file : File) : Type 0 where
-  pub tokens : List Token
-  pub spelled : IsTokenText bytes tokens
-  pub accepted : IsAccepted tokens file
+use Rattle.anvil_tool.specs.FileText.{IsCheckedText}
 
 -- the process of a plain file: one thread, `set R := *R + W'dL >> cycle N`, and no ports
 abbrev pub process_of : Counter → Process
@@ -43,10 +35,10 @@ pub record AreModulesOfFile (file : File) (modules : List Module) : Type 0 where
   pub plain : IsPlainFile counters file
   pub describe : AreModules counters modules
 
--- the same of the bytes of one
+-- the same of the bytes of one that passes its checks
 pub record AreModulesOf (bytes : List ℕ) (modules : List Module) : Type 0 where
   pub file : File
-  pub spelled : IsFileText bytes file
+  pub spelled : IsCheckedText bytes file
   pub describe : AreModulesOfFile file modules
 
 -- the text that is written for a plain file: that of such modules

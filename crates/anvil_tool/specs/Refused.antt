@@ -1,5 +1,5 @@
--- Why a file has no modules, and the line that tells a refusal.
-use Rattle.std.specs.Prelude.{◌≡◌, ◌⊎◌, ℕ, List, ◌++◌, codes}
+-- Why bytes spell no file, why a file does not pass its checks or has no modules, and the line that tells a refusal.
+use Rattle.std.specs.Prelude.{◌≡◌, ◌⊎◌, ℕ, List, ◌++◌, codes, Some, None}
 use Rattle.std.specs.Fmt.{decimal}
 use Rattle.anvil_lexer.specs.declared.token.Token.{Token}
 use Rattle.anvil_lexer.specs.declared.error.LexErr.{LexErr}
@@ -9,12 +9,20 @@ use Rattle.anvil_tree.specs.Tree.{File}
 use Rattle.anvil_grammar.specs.declared.error.ParseErr.{ParseErr}
 use Rattle.anvil_grammar.specs.declared.error.ParseErr.TheVariants as parser
 use Rattle.anvil_grammar.specs.Refusal.{IsFirstRefusal}
+use Rattle.first_check.specs.Check.{first_refusal}
+use Rattle.channel_classes.specs.declared.error.ClassErr.{ClassErr}
+use Rattle.channel_classes.specs.declared.error.ClassErr.TheVariants as class
+use Rattle.channel_classes.specs.Classes.{classes_of}
+use Rattle.channel_classes.specs.ClassChecks.{checks_of_classes}
+use Rattle.core_file.specs.declared.error.NameErr.{NameErr}
+use Rattle.core_file.specs.declared.error.NameErr.TheVariants as name
+use Rattle.core_file.specs.ProcessChecks.{checks_of_processes}
 use Rattle.plain_file.specs.Plain.{Counter, IsPlainFile}
 use Rattle.anvil_tool.specs.declared.refusal.Code.{Code}
 use Rattle.anvil_tool.specs.declared.refusal.Code.TheVariants as code
 use Rattle.anvil_tool.specs.declared.refusal.Refusal.{Refusal}
 use Rattle.anvil_tool.specs.declared.refusal.Refusal.TheVariants.{Bare, Placed, Paired, Lined, NoMemory}
-use Rattle.anvil_tool.specs.Output.{IsFileText}
+use Rattle.anvil_tool.specs.FileText.{IsFileText, IsCheckedText}
 
 -- a fault of the lexer
 abbrev pub of_lexer : LexErr → Refusal
@@ -31,6 +39,33 @@ of_parser (parser.TooDeep at) = Placed code.TooDeep at
 of_parser (parser.TooMany kind at) = Placed code.TooMany at
 of_parser parser.NoMemory = NoMemory
 
+-- a check of the classes
+abbrev pub of_classes : ClassErr → Refusal
+of_classes (class.BadName at) = Placed code.BadName at
+of_classes (class.Twice at) = Placed code.Twice at
+of_classes (class.BadWidth at) = Placed code.BadWidth at
+of_classes (class.BadCount at) = Placed code.BadCount at
+of_classes (class.OwnLife at) = Placed code.OwnLife at
+of_classes (class.NoSuchLife at) = Placed code.NoSuchLife at
+of_classes class.NoMemory = NoMemory
+
+-- a check of the processes: widths are not told
+abbrev pub of_processes : NameErr → Refusal
+of_processes (name.BadName at) = Placed code.BadName at
+of_processes (name.Twice at) = Placed code.Twice at
+of_processes (name.Unknown at) = Placed code.Unknown at
+of_processes (name.TooManyPorts at) = Placed code.TooManyPorts at
+of_processes (name.BadWidth at) = Placed code.BadWidth at
+of_processes (name.BadCount at) = Placed code.BadCount at
+of_processes (name.LiteralTooLarge at) = Placed code.LiteralTooLarge at
+of_processes (name.WidthDiffers at left right) = Placed code.WidthDiffers at
+of_processes (name.UnitUsed at) = Placed code.UnitUsed at
+of_processes (name.WrongSide at) = Placed code.WrongSide at
+of_processes (name.EndpointShared at) = Placed code.EndpointShared at
+of_processes (name.RegisterShared at) = Placed code.RegisterShared at
+of_processes (name.NotTail at) = Placed code.NotTail at
+of_processes name.NoMemory = NoMemory
+
 -- the refusal of a file that is no plain one: it has no place
 abbrev pub not_built : Refusal
 not_built = Bare code.NotBuilt
@@ -39,12 +74,30 @@ not_built = Bare code.NotBuilt
 abbrev pub IsNotPlain : File → Type 0
 IsNotPlain file = (counters : List Counter) → IsPlainFile counters file → ⊥
 
--- Bytes are refused by the lexer, or else by the parser, or else because they spell a file that is no plain one.
-pub data IsRefused (bytes : List ℕ) : Refusal → Type 0 where
-  by_lexer : (fault : LexErr) → IsLexRefusal bytes fault → IsRefused bytes (of_lexer fault)
+-- Bytes spell no file: they are refused by the lexer, or else by the parser.
+pub data IsUnread (bytes : List ℕ) : Refusal → Type 0 where
+  by_lexer : (fault : LexErr) → IsLexRefusal bytes fault → IsUnread bytes (of_lexer fault)
   by_parser : (tokens : List Token) (fault : ParseErr) → IsTokenText bytes tokens → IsFirstRefusal tokens fault
-      → IsRefused bytes (of_parser fault)
-  by_builder : (file : File) → IsFileText bytes file → IsNotPlain file → IsRefused bytes not_built
+      → IsUnread bytes (of_parser fault)
+
+-- A file does not pass: the first check of its classes that fails refuses it, or else the first of its processes.
+pub data IsUnchecked (file : File) : Refusal → Type 0 where
+  by_classes : (fault : ClassErr) → first_refusal (checks_of_classes file) ≡ Some fault
+      → IsUnchecked file (of_classes fault)
+  by_processes : (fault : NameErr) → first_refusal (checks_of_classes file) ≡ None
+      → first_refusal (checks_of_processes (classes_of file) file) ≡ Some fault
+      → IsUnchecked file (of_processes fault)
+
+-- Bytes are refused by every command that loads a file: they spell none, or one that does not pass.
+pub data IsFileRefused (bytes : List ℕ) : Refusal → Type 0 where
+  unread : (refusal : Refusal) → IsUnread bytes refusal → IsFileRefused bytes refusal
+  unchecked : (file : File) (refusal : Refusal) → IsFileText bytes file → IsUnchecked file refusal
+      → IsFileRefused bytes refusal
+
+-- `compile` refuses bytes for that, or else because they spell a file that passes and is no plain one.
+pub data IsRefused (bytes : List ℕ) : Refusal → Type 0 where
+  by_file : (refusal : Refusal) → IsFileRefused bytes refusal → IsRefused bytes refusal
+  by_builder : (file : File) → IsCheckedText bytes file → IsNotPlain file → IsRefused bytes not_built
 
 -- The line.
 
@@ -56,6 +109,21 @@ spelling code.LongName = codes "LongName"
 spelling code.Unexpected = codes "Unexpected"
 spelling code.TooDeep = codes "TooDeep"
 spelling code.TooMany = codes "TooMany"
+spelling code.BadName = codes "BadName"
+spelling code.Twice = codes "Twice"
+spelling code.BadWidth = codes "BadWidth"
+spelling code.BadCount = codes "BadCount"
+spelling code.OwnLife = codes "OwnLife"
+spelling code.NoSuchLife = codes "NoSuchLife"
+spelling code.Unknown = codes "Unknown"
+spelling code.TooManyPorts = codes "TooManyPorts"
+spelling code.LiteralTooLarge = codes "LiteralTooLarge"
+spelling code.WidthDiffers = codes "WidthDiffers"
+spelling code.UnitUsed = codes "UnitUsed"
+spelling code.WrongSide = codes "WrongSide"
+spelling code.EndpointShared = codes "EndpointShared"
+spelling code.RegisterShared = codes "RegisterShared"
+spelling code.NotTail = codes "NotTail"
 spelling code.NotBuilt = codes "NotBuilt"
 
 abbrev pub no_memory_line : List ℕ

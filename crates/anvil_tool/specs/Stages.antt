@@ -8,7 +8,8 @@ use Rattle.anvil_tree.specs.Tree.{File}
 use Rattle.plain_file.specs.Plain.{Counter, IsPlainFile}
 use Rattle.anvil_tool.specs.declared.refusal.Refusal.{Refusal}
 use Rattle.anvil_tool.specs.Form.{Command, compile, Form}
-use Rattle.anvil_tool.specs.Output.{IsFileText, IsOutput}
+use Rattle.anvil_tool.specs.FileText.{IsCheckedText}
+use Rattle.anvil_tool.specs.Output.{IsOutput}
 use Rattle.anvil_tool.specs.Refused.{IsRefused}
 
 -- what the stages of a command say of the bytes that they have
@@ -22,11 +23,11 @@ pub record Stages : Type 1 where
 
 -- `compile`: FILE has modules, or is refused.
 
--- bytes that spell a plain file
+-- bytes that spell a plain file that passes its checks
 pub record IsPlainText (bytes : List ℕ) : Type 0 where
   pub file : File
   pub counters : List Counter
-  pub text : IsFileText bytes file
+  pub spelled : IsCheckedText bytes file
   pub plain : IsPlainFile counters file
 
 abbrev pub compile_refuses : List (List ℕ) → Refusal → Type 0

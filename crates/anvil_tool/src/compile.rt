@@ -8,7 +8,8 @@ ghost use Rattle.plain_file.specs.Plain.{Counter, IsPlainFile};
 ghost use Rattle.anvil_tool.specs.declared.refusal.Refusal.{Refusal};
 ghost use Rattle.anvil_tool.specs.Form.{compile_form, longest_file};
 ghost use Rattle.anvil_tool.specs.Answer.{HasNoFault, IsFirstRefusal, IsLine, IsReadFault, IsRefusedBy, IsTooLong, IsUntouched, IsWritten, LineFailed, OutFailed, Overflows, Passes, Tells};
-ghost use Rattle.anvil_tool.specs.Output.{IsFileText, IsOutput};
+ghost use Rattle.anvil_tool.specs.FileText.{IsCheckedText};
+ghost use Rattle.anvil_tool.specs.Output.{IsOutput};
 ghost use Rattle.anvil_tool.specs.Refused.{IsLineOf, IsRefusalLine, IsRefused, no_memory_line, refusal_line};
 
 use crate::complain::{complain, complain_of, complain_refusal};
@@ -117,7 +118,7 @@ fn compile<O: Sink, E: Sink>(alloc: Global, bytes: &[u8], out: &mut O, err: &mut
         × AppendsPrefix (E.held err.old) (E.held err.new) line × Rose (E.faults err.old) (E.faults err.new)) }
     ensures later { O.faults out.old ≤ O.faults out.new }
     ensures err_later { E.faults err.old ≤ E.faults err.new }
-    ensures complete { (file : File) (counters : List Counter) → IsFileText bytes.now file → IsPlainFile counters file
+    ensures complete { (file : File) (counters : List Counter) → IsCheckedText bytes.now file → IsPlainFile counters file
         → HasNoFault (O.faults out.old) (O.faults out.new) → HasNoFault (E.faults err.old) (E.faults err.new)
         → (result ≡ Status.Done) ⊎ (result ≡ Status.NoMemory) }
 {

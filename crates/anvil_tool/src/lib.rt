@@ -6,6 +6,7 @@
 
 mod compile;
 mod complain;
+mod front;
 mod laws;
 mod modules;
 mod refusal;

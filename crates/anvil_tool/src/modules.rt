@@ -1,19 +1,16 @@
-//! From the bytes of a file to the modules of its processes.
+//! The modules of the processes of a plain file.
 ghost use Rattle.std.specs.Prelude.{◌≡◌, ◌≢◌, ◌⊎◌, ◌≤◌, ◌^◌, List, ℕ, length, map, IfErr, IfOk, MatchOption, MatchResult};
 ghost use Rattle.std.specs.List.{All};
-ghost use Rattle.anvil_lexer.specs.declared.token.Token.{Token as SpelledToken};
-ghost use Rattle.anvil_lexer.specs.TokenText.{AreClosed, ArePlacesRising, IsLexRefusal, IsTokenText};
 ghost use Rattle.anvil_tree.specs.Tree as tree;
 ghost use Rattle.anvil_tree.specs.View.{file_of};
-ghost use Rattle.anvil_grammar.specs.Refusal.{IsAccepted, IsFirstRefusal};
 ghost use Rattle.plain_file.specs.Plain.{Counter, IsCounter, IsPlainFile};
 ghost use Rattle.plain_file.specs.Seen.{counter_of};
-ghost use Rattle.anvil_tool.specs.Output.{AreModules, AreModulesOf, AreModulesOfFile, IsFileText, IsModule};
-ghost use Rattle.anvil_tool.specs.Refused.{IsNotPlain, IsRefused, not_built, of_lexer, of_parser};
+ghost use Rattle.anvil_tool.specs.FileText.{IsCheckedText};
+ghost use Rattle.anvil_tool.specs.Output.{AreModules, AreModulesOf, AreModulesOfFile, IsModule};
+ghost use Rattle.anvil_tool.specs.Refused.{IsNotPlain, IsRefused, not_built};
 
-use crate::refusal::{Code, Refusal, of_lexer, of_parser};
-use anvil_lexer::{LexErr, Token, lex};
-use anvil_parser::{ParseErr, parse};
+use crate::front::{core_of_file, file_of_bytes};
+use crate::refusal::{Code, Refusal};
 use anvil_tree::File;
 use fsm_builder::{Bits, SvModule, build_counter};
 use plain_file::{Plain, read_plain};
@@ -70,43 +67,6 @@ fn modules_of_file(alloc: Global, file: &File) -> Result<Vec<SvModule>, Refusal>
     }
 }
 
-// The tokens of a file's bytes, or the lexer's first fault.
-fn tokens_of(alloc: Global, bytes: &[u8]) -> Result<Vec<Token>, Refusal>
-    requires { length bytes.now ≤ 2 ^ 20 }
-    ensures tokens { IfOk result (λ tokens. IsTokenText bytes.now tokens.items) }
-    ensures closed { IfOk result (λ tokens. AreClosed tokens.items) }
-    ensures rising { IfOk result (λ tokens. ArePlacesRising tokens.items) }
-    ensures every_text { (tokens : List SpelledToken) → IsTokenText bytes.now tokens
-        → MatchResult result (λ found. found.items ≡ tokens) (λ refusal. refusal ≡ Refusal.NoMemory) }
-    ensures refused { IfErr result (λ refusal. refusal ≢ Refusal.NoMemory → IsRefused bytes.now refusal) }
-    ensures every_refusal { (fault : LexErr) → IsLexRefusal bytes.now fault
-        → MatchResult result (λ _. ⊥) (λ refusal. (refusal ≡ of_lexer fault) ⊎ (refusal ≡ Refusal.NoMemory)) }
-{
-    match lex(alloc, bytes) {
-        Ok(tokens) => Ok(tokens),
-        Err(fault) => Err(of_lexer(&fault)),
-    }
-}
-
-// The tree of tokens, or the parser's first refusal.
-fn tree_of(alloc: Global, tokens: &[Token]) -> Result<File, Refusal>
-    requires closed { AreClosed tokens.now }
-    requires rising { ArePlacesRising tokens.now }
-    ensures tree { IfOk result (λ file. IsAccepted tokens.now (file_of file)) }
-    ensures every_file { (file : tree.File) → IsAccepted tokens.now file
-        → MatchResult result (λ found. file_of found ≡ file) (λ refusal. refusal ≡ Refusal.NoMemory) }
-    ensures refused { IfErr result
-        (λ refusal. refusal ≢ Refusal.NoMemory
-        → (fault : ParseErr) × IsFirstRefusal tokens.now fault × (refusal ≡ of_parser fault)) }
-    ensures every_refusal { (fault : ParseErr) → IsFirstRefusal tokens.now fault
-        → MatchResult result (λ _. ⊥) (λ refusal. (refusal ≡ of_parser fault) ⊎ (refusal ≡ Refusal.NoMemory)) }
-{
-    match parse(alloc, tokens) {
-        Ok(file) => Ok(file),
-        Err(fault) => Err(of_parser(&fault)),
-    }
-}
-
 /// The modules of the processes of the plain file that the bytes spell, or why there are none.
 pub(crate) fn modules_of_bytes(alloc: Global, bytes: &[u8]) -> Result<Vec<SvModule>, Refusal>
     requires { length bytes.now ≤ 2 ^ 20 }
@@ -114,16 +74,15 @@ pub(crate) fn modules_of_bytes(alloc: Global, bytes: &[u8]) -> Result<Vec<SvModu
     ensures refused { IfErr result (λ refusal. refusal ≢ Refusal.NoMemory → IsRefused bytes.now refusal) }
     ensures every_refusal { (refusal : Refusal) → IsRefused bytes.now refusal
         → MatchResult result (λ _. ⊥) (λ found. (found ≡ refusal) ⊎ (found ≡ Refusal.NoMemory)) }
-    ensures every_file { (file : tree.File) (counters : List Counter) → IsFileText bytes.now file
+    ensures every_file { (file : tree.File) (counters : List Counter) → IsCheckedText bytes.now file
         → IsPlainFile counters file → IfErr result (λ refusal. refusal ≡ Refusal.NoMemory) }
 {
-    let tokens = match tokens_of(alloc, bytes) {
-        Ok(tokens) => tokens,
-        Err(refusal) => return Err(refusal),
-    };
-    let file = match tree_of(alloc, &tokens) {
+    let file = match file_of_bytes(alloc, bytes) {
         Ok(file) => file,
         Err(refusal) => return Err(refusal),
     };
-    modules_of_file(alloc, &file)
+    match core_of_file(alloc, &file) {
+        Ok(_) => modules_of_file(alloc, &file),
+        Err(refusal) => Err(refusal),
+    }
 }

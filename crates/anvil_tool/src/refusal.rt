@@ -1,9 +1,11 @@
-//! Why a file has no modules, and the code that tells it.
+//! Why a command refuses what it loaded, and the code that tells it.
 ghost use Rattle.std.specs.Prelude.{◌≡◌};
-ghost use Rattle.anvil_tool.specs.Refused.{of_lexer, of_parser, spelling};
+ghost use Rattle.anvil_tool.specs.Refused.{of_classes, of_lexer, of_parser, of_processes, spelling};
 
 use anvil_lexer::LexErr;
 use anvil_parser::ParseErr;
+use channel_classes::ClassErr;
+use width_check::NameErr;
 
 /// What is refused.
 #[derive(Clone, Copy)]
@@ -15,6 +17,21 @@ pub(crate) enum Code {
     Unexpected,
     TooDeep,
     TooMany,
+    BadName,
+    Twice,
+    BadWidth,
+    BadCount,
+    OwnLife,
+    NoSuchLife,
+    Unknown,
+    TooManyPorts,
+    LiteralTooLarge,
+    WidthDiffers,
+    UnitUsed,
+    WrongSide,
+    EndpointShared,
+    RegisterShared,
+    NotTail,
     NotBuilt,
 }
 
@@ -45,6 +62,21 @@ pub(crate) fn spelling(code: Code) -> &'static [u8]
         Code::Unexpected => b"Unexpected",
         Code::TooDeep => b"TooDeep",
         Code::TooMany => b"TooMany",
+        Code::BadName => b"BadName",
+        Code::Twice => b"Twice",
+        Code::BadWidth => b"BadWidth",
+        Code::BadCount => b"BadCount",
+        Code::OwnLife => b"OwnLife",
+        Code::NoSuchLife => b"NoSuchLife",
+        Code::Unknown => b"Unknown",
+        Code::TooManyPorts => b"TooManyPorts",
+        Code::LiteralTooLarge => b"LiteralTooLarge",
+        Code::WidthDiffers => b"WidthDiffers",
+        Code::UnitUsed => b"UnitUsed",
+        Code::WrongSide => b"WrongSide",
+        Code::EndpointShared => b"EndpointShared",
+        Code::RegisterShared => b"RegisterShared",
+        Code::NotTail => b"NotTail",
         Code::NotBuilt => b"NotBuilt",
     }
 }
@@ -72,6 +104,45 @@ pub(crate) fn of_parser(fault: &ParseErr) -> Refusal
         ParseErr::TooDeep { at } => (Code::TooDeep, *at),
         ParseErr::TooMany { at, .. } => (Code::TooMany, *at),
         ParseErr::NoMemory => return Refusal::NoMemory,
+    };
+    Refusal::Placed { code, at }
+}
+
+/// The first check of the classes of a file that fails.
+pub(crate) fn of_classes(fault: &ClassErr) -> Refusal
+    ensures { result ≡ of_classes fault.now }
+{
+    let (code, at) = match fault {
+        ClassErr::BadName { at } => (Code::BadName, *at),
+        ClassErr::Twice { at } => (Code::Twice, *at),
+        ClassErr::BadWidth { at } => (Code::BadWidth, *at),
+        ClassErr::BadCount { at } => (Code::BadCount, *at),
+        ClassErr::OwnLife { at } => (Code::OwnLife, *at),
+        ClassErr::NoSuchLife { at } => (Code::NoSuchLife, *at),
+        ClassErr::NoMemory => return Refusal::NoMemory,
+    };
+    Refusal::Placed { code, at }
+}
+
+/// The first check of the processes of a file that fails.
+pub(crate) fn of_processes(fault: &NameErr) -> Refusal
+    ensures { result ≡ of_processes fault.now }
+{
+    let (code, at) = match fault {
+        NameErr::BadName { at } => (Code::BadName, *at),
+        NameErr::Twice { at } => (Code::Twice, *at),
+        NameErr::Unknown { at } => (Code::Unknown, *at),
+        NameErr::TooManyPorts { at } => (Code::TooManyPorts, *at),
+        NameErr::BadWidth { at } => (Code::BadWidth, *at),
+        NameErr::BadCount { at } => (Code::BadCount, *at),
+        NameErr::LiteralTooLarge { at } => (Code::LiteralTooLarge, *at),
+        NameErr::WidthDiffers { at, .. } => (Code::WidthDiffers, *at),
+        NameErr::UnitUsed { at } => (Code::UnitUsed, *at),
+        NameErr::WrongSide { at } => (Code::WrongSide, *at),
+        NameErr::EndpointShared { at } => (Code::EndpointShared, *at),
+        NameErr::RegisterShared { at } => (Code::RegisterShared, *at),
+        NameErr::NotTail { at } => (Code::NotTail, *at),
+        NameErr::NoMemory => return Refusal::NoMemory,
     };
     Refusal::Placed { code, at }
 }

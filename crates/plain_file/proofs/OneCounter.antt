@@ -4,7 +4,7 @@
 -- by an equation what the tree is, and the tree has that form in one way alone.
 use Rattle.std.proofs.Common.{◌≡◌, ℕ, List, [], ◌∷◌, get_or, map, refl, subst, None}
 use Rattle.anvil_tree.specs.Tree.{Name, Expr, Term, follow, set, Process, Item}
-use Rattle.plain_file.specs.Plain.{Counter, IsSum, IsWait, IsTurn, IsCountingProcess, AreCounting, none, more}
+use Rattle.plain_file.specs.Plain.{Counter, IsSum, IsWait, IsTurn, IsCountingProcess, AreCounting, none, more, classed}
 
 -- what is set and what comes after it
 pub parts_of_turn : (register : Name) (width addend cycles set_at register_at : ℕ) (target : Name) (value : Expr) (after term : Term)
@@ -42,5 +42,6 @@ one_process {counter} {other} {proc} one two =
 -- the counters of a file are one list at most
 pub one_list : (counters others : List Counter) (items : List Item) → AreCounting counters items → AreCounting others items → counters ≡ others
 one_list counters others items none none = refl
+one_list counters others items (classed one) (classed two) = one_list counters others _ one two
 one_list counters [] items (more one more_ones) others = elim others [ ]
 one_list (counter ∷ counters) (other ∷ others) items (more one more_ones) (more two more_twos) = cc (one_process one two, one_list counters others _ more_ones more_twos)

@@ -1,7 +1,8 @@
 -- A plain file, on the tree of a file: what the tool can build until it builds every process.
 --
--- It has no class and any number of counting processes, also none, whose names differ. A counting process has no
--- endpoints, one register without a reset literal, and one thread, which adds a constant to the register and then waits:
+-- It has any number of classes and of counting processes, also none, and the names of its processes differ. A counting
+-- process has no endpoints, one register without a reset literal, and one thread, which adds a constant to the register
+-- and then waits:
 -- `proc P() { reg R : logic[W]; loop { set R := *R + W'dL >> cycle N } }`. Nothing is asked of places, so layout,
 -- comments, parentheses and the base of the literal are free: the tree has none of them. A process whose literal stands
 -- first, or whose acts stand in a block, is none, though it would count just so.
@@ -10,7 +11,7 @@ use Rattle.std.specs.List.{AllByRecursion}
 use Rattle.anvil_lexer.specs.GoodName.{is_good_name}
 use Rattle.anvil_tree.specs.declared.expr.BinOp.TheVariants.{Add}
 use Rattle.anvil_tree.specs.declared.file.Register.{Register}
-use Rattle.anvil_tree.specs.Tree.{Name, Expr, literal, shown, binary, Term, single, follow, cycle, set, Process, Item, process, File}
+use Rattle.anvil_tree.specs.Tree.{Name, Expr, literal, shown, binary, Term, single, follow, cycle, set, Class, Process, Item, class, process, File}
 
 -- the parts of a counting process
 pub record Counter : Type 0 where
@@ -79,12 +80,14 @@ pub record IsCountingProcess (counter : Counter) (proc : Process) : Type 0 where
   pub named : proc.name ≡ counter.process
   pub counts : Counts counter.register counter.width counter.addend counter.cycles proc
 
--- each item is a process, that of the counter in the same place of the list
+-- the processes among the items are those of the counters, in their order; classes may stand between them
 pub data AreCounting : List Counter → List Item → Type 0 where
   none : AreCounting [] []
   more : {counter : Counter} {counters : List Counter} {proc : Process} {items : List Item}
       → IsCountingProcess counter proc → AreCounting counters items
       → AreCounting (counter ∷ counters) (process proc ∷ items)
+  classed : {counters : List Counter} {chan : Class} {items : List Item} → AreCounting counters items
+      → AreCounting counters (class chan ∷ items)
 
 -- none of the processes has the name
 abbrev pub IsNew : Name → List Counter → Type 0
@@ -95,7 +98,7 @@ abbrev pub HaveOwnNames : List Counter → Type 0
 HaveOwnNames [] = ⊤
 HaveOwnNames (counter ∷ counters) = IsNew counter.process counters × HaveOwnNames counters
 
--- the file has the counters' processes and nothing else
+-- the file has the counters' processes, and else classes alone
 pub record IsPlainFile (counters : List Counter) (file : File) : Type 0 where
   pub counting : AreCounting counters file
   pub names : HaveOwnNames counters

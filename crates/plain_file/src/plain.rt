@@ -110,7 +110,7 @@ fn plain_of(process: &Proc) -> Option<Plain<'_>>
     }
 }
 
-// The parts of each item, where all are counting processes.
+// The parts of each process among the items, where all are counting processes.
 fn plains_of(alloc: Global, items: &[Item]) -> Result<Option<Vec<Plain<'_>>>, AllocError>
     ensures { IfOk result (λ found. MatchOption found
         ((counters : List Counter) → AreCounting counters (map item_of items.now) → ⊥)
@@ -118,13 +118,15 @@ fn plains_of(alloc: Global, items: &[Item]) -> Result<Option<Vec<Plain<'_>>>, Al
 {
     let mut plains = Vec::new(alloc);
     for item in items {
-        let Item::Proc(process) = item else {
-            return Ok(None);
-        };
-        let Some(plain) = plain_of(process) else {
-            return Ok(None);
-        };
-        plains.push(plain)?;
+        match item {
+            Item::Chan(_) => {}
+            Item::Proc(process) => {
+                let Some(plain) = plain_of(process) else {
+                    return Ok(None);
+                };
+                plains.push(plain)?;
+            }
+        }
     }
     Ok(Some(plains))
 }

@@ -1,7 +1,7 @@
 -- A fault of the lexer that is no want of memory is a refusal of the bytes.
 use Rattle.std.proofs.Common.{ap, ◌∙◌}
 use Rattle.anvil_tool.specs.Refused.{by_lexer, of_lexer}
-use Rattle.anvil_tool.proofs.modules.tokens_of.Goals as goal
+use Rattle.anvil_tool.proofs.front.tokens_of.Goals as goal
 
 pub returns-in-Err-clause-refused : goal.returns-in-Err-clause-refused
 returns-in-Err-clause-refused c = λ not_memory.
