@@ -52,10 +52,12 @@ life of 65,536 cycles ~ chan c { left m : (logic[8]@#65536) } ~ BadCount at 29
 life that ends with its own message ~ chan c { left m : (logic[8]@m) } ~ OwnLife at 28
 life that ends with no message of the class ~ chan c { left m : (logic[8]@n) } ~ NoSuchLife at 28
 bad name and bad width: the name ~ chan c { left m__n : (logic[0]@#0) } ~ BadName at 14
-name that stands twice and bad width: the name ~ chan c { left m : (logic[8]@#1), right m : (logic[0]@#1) } ~ Twice at 39
+name that stands twice and bad width: the name ~ \
+    chan c { left m : (logic[8]@#1), right m : (logic[0]@#1) } ~ Twice at 39
 bad width and bad count: the width ~ chan c { left m : (logic[0]@#0) } ~ BadWidth at 25
 name of a class before its messages ~ chan c_ { left m : (logic[0]@#1) } ~ BadName at 5
-bad message name before a later class ~ chan c { left m_ : (logic[8]@#1) } chan c { left m : (logic[8]@#1) } ~ BadName at 14
+bad message name before a later class ~ \
+    chan c { left m_ : (logic[8]@#1) } chan c { left m : (logic[8]@#1) } ~ BadName at 14
 a class is checked before every process ~ proc p_() { } chan c { left m : (logic[8]@n) } ~ NoSuchLife at 42
 process name that begins with _ ~ proc _p() { } ~ BadName at 5
 two processes of one name ~ proc p() { } proc p() { } ~ Twice at 18
@@ -71,15 +73,23 @@ two registers of one name ~ proc e(p : left ch) { reg r : logic[8]; reg r : logi
 register of no bits ~ proc e(p : left ch) { reg r : logic[0]; loop { cycle 1 } } ~ BadWidth at 101
 literal of 65 bits ~ proc e(p : left ch) { reg r : logic[64] = 65'd0; loop { cycle 1 } } ~ BadWidth at 107
 literal of 2 to its width ~ proc e(p : left ch) { reg r : logic[8] = 8'd256; loop { cycle 1 } } ~ LiteralTooLarge at 106
-literal of another width than its register ~ proc e(p : left ch) { reg r : logic[8] = 4'd1; loop { cycle 1 } } ~ WidthDiffers at 106
-literal too large and of another width: too large ~ proc e(p : left ch) { reg r : logic[8] = 4'd16; loop { cycle 1 } } ~ LiteralTooLarge at 106
-register's width before its literal ~ proc e(p : left ch) { reg r : logic[0] = 65'd0; loop { cycle 1 } } ~ BadWidth at 101
-endpoint named by two threads ~ proc e(p : left ch) { loop { recv p.req >> cycle 1 } loop { send p.res(8'd1) >> cycle 1 } } ~ EndpointShared at 125
-wrong side before a shared endpoint ~ proc e(p : left ch) { loop { recv p.req >> cycle 1 } loop { send p.req(x) >> cycle 1 } } ~ WrongSide at 125
-shared endpoint before the value ~ proc e(p : left ch) { loop { recv p.req >> cycle 1 } loop { send p.res(x) >> cycle 1 } } ~ EndpointShared at 125
+literal of another width than its register ~ \
+    proc e(p : left ch) { reg r : logic[8] = 4'd1; loop { cycle 1 } } ~ WidthDiffers at 106
+literal too large and of another width: too large ~ \
+    proc e(p : left ch) { reg r : logic[8] = 4'd16; loop { cycle 1 } } ~ LiteralTooLarge at 106
+register's width before its literal ~ \
+    proc e(p : left ch) { reg r : logic[0] = 65'd0; loop { cycle 1 } } ~ BadWidth at 101
+endpoint named by two threads ~ \
+    proc e(p : left ch) { loop { recv p.req >> cycle 1 } loop { send p.res(8'd1) >> cycle 1 } } ~ EndpointShared at 125
+wrong side before a shared endpoint ~ \
+    proc e(p : left ch) { loop { recv p.req >> cycle 1 } loop { send p.req(x) >> cycle 1 } } ~ WrongSide at 125
+shared endpoint before the value ~ \
+    proc e(p : left ch) { loop { recv p.req >> cycle 1 } loop { send p.res(x) >> cycle 1 } } ~ EndpointShared at 125
 endpoints before registers ~ proc e(p : left ch, p : right ch) { reg r_ : logic[8]; loop { cycle 1 } } ~ Twice at 85
 registers before threads ~ proc e(p : left ch) { reg r_ : logic[8]; loop { set no := 8'd1 } } ~ BadName at 91
-an inner variable hides an outer one ~ proc e(p : left ch) { reg r : logic[8]; reg s : logic[4]; loop { let x = recv p.req >> { let x = 4'd3 >> set s := x } >> set r := x >> send p.res(*r) >> cycle 1 } } ~ NotBuilt
+an inner variable hides an outer one ~ \
+    proc e(p : left ch) { reg r : logic[8]; reg s : logic[4]; loop { let x = recv p.req >> { let x = 4'd3 >> \
+    set s := x } >> set r := x >> send p.res(*r) >> cycle 1 } } ~ NotBuilt
 ";
 
 /// Threads of the process.
@@ -174,6 +184,9 @@ fn the_65th_port_is_one_too_many(rt: HostRuntime) -> Result<(), Fail> {
     text.push_str(" } proc e(p : left b, q : left b) { loop { cycle 1 } }")?;
     let refused = run(rt.alloc(), &["compile", "f"], text.as_bytes(), NO_FAULTS)?;
     assert!(rt; refused.status == Status::Refused);
-    assert_eq!(rt; refused.err.bytes(), b"refused: TooManyPorts at 876\n".as_slice());
+    assert_eq!(rt;
+        refused.err.bytes(),
+        b"refused: TooManyPorts at 876\n".as_slice()
+    );
     Ok(())
 }

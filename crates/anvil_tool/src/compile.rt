@@ -118,9 +118,9 @@ fn compile<O: Sink, E: Sink>(alloc: Global, bytes: &[u8], out: &mut O, err: &mut
         × AppendsPrefix (E.held err.old) (E.held err.new) line × Rose (E.faults err.old) (E.faults err.new)) }
     ensures later { O.faults out.old ≤ O.faults out.new }
     ensures err_later { E.faults err.old ≤ E.faults err.new }
-    ensures complete { (file : File) (counters : List Counter) → IsCheckedText bytes.now file → IsPlainFile counters file
-        → HasNoFault (O.faults out.old) (O.faults out.new) → HasNoFault (E.faults err.old) (E.faults err.new)
-        → (result ≡ Status.Done) ⊎ (result ≡ Status.NoMemory) }
+    ensures complete { (file : File) (counters : List Counter) → IsCheckedText bytes.now file
+        → IsPlainFile counters file → HasNoFault (O.faults out.old) (O.faults out.new)
+        → HasNoFault (E.faults err.old) (E.faults err.new) → (result ≡ Status.Done) ⊎ (result ≡ Status.NoMemory) }
 {
     let modules = match modules_of_bytes(alloc, bytes) {
         Ok(modules) => modules,
