@@ -1,5 +1,5 @@
--- What a machine keeps of acts that begin: the latest choice of one, and which of several began last; and what they write
--- and show. Acts are counted from 0 in text order.
+-- What a machine keeps of acts that begin: the latest choice of one, and which of several began last; and what they
+-- write and show. Acts are counted from 0 in text order.
 use Rattle.std.specs.Prelude.{
   ℕ, ◌≡◌, ◌+◌, ◌<◌, ◌≤◌, ◌&&◌, ◌||◌, not, if◌then◌else◌, Bool, true, false, zero, suc
 }
@@ -15,8 +15,8 @@ abbrev pub some_begin : (begun : ℕ → ℕ → Bool) → (count cycle : ℕ) �
 some_begin begun zero cycle = false
 some_begin begun (suc act) cycle = some_begin begun act cycle || begun act cycle
 
--- Several acts: a net of each shows that it is the first of those that begin in this cycle, or where none begins, that it
--- was so before; a register keeps what was shown.
+-- Several acts: a net of each shows that it is the first of those that begin in this cycle, or where none begins,
+-- that it was so before; a register keeps what was shown.
 pub record IsNewest (count : ℕ) (begun shown kept : ℕ → ℕ → Bool) : Type 0 where
   pub none : (act : ℕ) → kept act 0 ≡ false
   pub keeps : (act cycle : ℕ) → act < count → kept act (cycle + 1) ≡ shown act cycle

@@ -1,7 +1,7 @@
 -- What the pulses of a machine mean: they are the occurrences of nodes in the turns of a timeline.
 --
--- A contract cannot speak of every relation, so here a timeline is given by functions: when each turn begins, and when each
--- node occurs in it. The lemmas behind these laws hold of relations.
+-- A contract cannot speak of every relation, so here a timeline is given by functions: when each turn begins, and
+-- when each node occurs in it. The lemmas behind these laws hold of relations.
 use Rattle.std.specs.Prelude.{ℕ, ◌≡◌, ◌<◌, ◌≤◌, ◌↔◌, ◌||◌, true, false, Option, Some}
 use Rattle.order_rules.specs.Form.{After, Sync}
 use Rattle.turn_pulses.specs.TurnGraph.{TurnGraph, IsTurnGraph}

@@ -1,8 +1,8 @@
 -- A machine of pulses over the graph of one turn, as equations on what its nets and registers show in each cycle.
 --
--- Each live node has a net that is 1, a pulse, in the cycles in which the node occurs. A delay has a counter, which is loaded
--- when its predecessor has its pulse, and has its own pulse at 1. A wait for a partner has one bit: its act is pending. A
--- join has one bit: exactly one of its two ends has come. One bit says that the machine has started.
+-- Each live node has a net that is 1, a pulse, in the cycles in which the node occurs. A delay has a counter, which
+-- is loaded when its predecessor has its pulse, and has its own pulse at 1. A wait for a partner has one bit: its act
+-- is pending. A join has one bit: exactly one of its two ends has come. One bit says that the machine has started.
 use Rattle.std.specs.Prelude.{
   ℕ, ◌≡◌, ◌+◌, ◌-◌, ◌==◌, ◌&&◌, ◌||◌, not, if◌then◌else◌, Bool, true, false
 }

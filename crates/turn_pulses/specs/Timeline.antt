@@ -1,4 +1,5 @@
--- When turns begin, and when the nodes of a graph occur in them: what a run shows of a thread, told apart from any text.
+-- When turns begin, and when the nodes of a graph occur in them: what a run shows of a thread, told apart from any
+-- text.
 --
 -- Turns follow one another without a gap. What is asked here holds of the turns of a body in any run.
 use Rattle.std.specs.Prelude.{ℕ, ◌≡◌, ◌+◌, ◌<◌, ◌≤◌, ◌⊎◌, ◌↔◌, max, true, false}
@@ -6,7 +7,8 @@ use Rattle.order_rules.specs.Form.{Form, Start, Same, After, Sync, Join, Side, M
 use Rattle.turn_pulses.specs.TurnGraph.{TurnGraph}
 use Rattle.turn_pulses.specs.PulseMachine.{Seen}
 
--- `Begins turn cycle`: the turn begins in the cycle. `Occurs turn node cycle`: in that turn the node occurs in the cycle.
+-- `Begins turn cycle`: the turn begins in the cycle. `Occurs turn node cycle`: in that turn the node occurs in the
+-- cycle.
 
 -- when a node of each form occurs in a turn, told from its predecessors
 abbrev pub OccursAs : Seen → (Begins : ℕ → ℕ → Type 0) → (Occurs : ℕ → ℕ → ℕ → Type 0)

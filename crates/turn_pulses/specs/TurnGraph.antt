@@ -1,13 +1,13 @@
 -- The graph of one turn, as a machine is built over it: which nodes are drawn, and how.
 --
--- A turn begins where the one before has ended, in the same cycle. So the end of a turn has to be known before the begin
--- is. The nodes of the tail are those that may fall on the end of the turn. They are made from registers and from one
--- another alone, and every other node may ask whether a turn begins.
+-- A turn begins where the one before has ended, in the same cycle. So the end of a turn has to be known before the
+-- begin is. The nodes of the tail are those that may fall on the end of the turn. They are made from registers and
+-- from one another alone, and every other node may ask whether a turn begins.
 use Rattle.std.specs.Prelude.{ℕ, ◌≡◌, ◌<◌, Bool, true, false}
 use Rattle.order_rules.specs.Form.{Form, Start, Same, After, Sync, Join, Side, Merge}
 
--- which nodes are live, the form of each over earlier nodes, the node of the end of the turn, which nodes are of the tail,
--- and which joins forget at each begin of a turn that one of both ends has come
+-- which nodes are live, the form of each over earlier nodes, the node of the end of the turn, which nodes are of the
+-- tail, and which joins forget at each begin of a turn that one of both ends has come
 pub record TurnGraph : Type 0 where
   pub live : (node : ℕ) → Bool
   pub form : (node : ℕ) → Form ℕ
@@ -19,8 +19,8 @@ pub record TurnGraph : Type 0 where
 abbrev pub IsPredecessor : TurnGraph → (predecessor node : ℕ) → Type 0
 IsPredecessor graph predecessor node = (predecessor < node) × (graph.live predecessor ≡ true)
 
--- a node of this form: its predecessors are live and earlier, a delay takes time, and both ends of a join are of the tail
--- or neither is
+-- a node of this form: its predecessors are live and earlier, a delay takes time, and both ends of a join are of the
+-- tail or neither is
 abbrev pub IsNode : TurnGraph → (node : ℕ) → Form ℕ → Type 0
 IsNode graph node Start = Unit {0}
 IsNode graph node (Same from) = IsPredecessor graph from node

@@ -1,0 +1,16 @@
+pub mod TailEnds
+pub mod EndedTerms
+pub mod Windows
+pub mod TailActs
+pub mod Turns
+pub mod Waits
+pub mod Sides
+pub mod Timeline
+pub mod TailRules
+pub mod TextRules
+pub mod DrawnPoints
+pub mod Drawing
+pub mod TurnGraphs
+pub mod Formed
+pub mod Reaching
+pub mod Choosing
