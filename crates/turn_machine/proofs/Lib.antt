@@ -12,5 +12,6 @@ pub mod DrawnPoints
 pub mod Drawing
 pub mod TurnGraphs
 pub mod Formed
+pub mod OneTurn
 pub mod Reaching
 pub mod Choosing

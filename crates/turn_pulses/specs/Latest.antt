@@ -1,7 +1,20 @@
 -- What a machine keeps of acts that begin: the latest choice of one, and which of several began last; and what they
 -- write and show. Acts are counted from 0 in text order.
 use Rattle.std.specs.Prelude.{
-  ℕ, ◌≡◌, ◌+◌, ◌<◌, ◌≤◌, ◌&&◌, ◌||◌, not, if◌then◌else◌, Bool, true, false, zero, suc
+  ℕ,
+  ◌≡◌,
+  ◌+◌,
+  ◌<◌,
+  ◌≤◌,
+  ◌&&◌,
+  ◌||◌,
+  not,
+  if◌then◌else◌,
+  Bool,
+  true,
+  false,
+  zero,
+  suc,
 }
 
 -- One act that chooses as it begins: a net shows its choice in that cycle, and a register keeps what was shown.

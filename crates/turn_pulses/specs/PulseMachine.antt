@@ -4,7 +4,18 @@
 -- is loaded when its predecessor has its pulse, and has its own pulse at 1. A wait for a partner has one bit: its act
 -- is pending. A join has one bit: exactly one of its two ends has come. One bit says that the machine has started.
 use Rattle.std.specs.Prelude.{
-  ℕ, ◌≡◌, ◌+◌, ◌-◌, ◌==◌, ◌&&◌, ◌||◌, not, if◌then◌else◌, Bool, true, false
+  ℕ,
+  ◌≡◌,
+  ◌+◌,
+  ◌-◌,
+  ◌==◌,
+  ◌&&◌,
+  ◌||◌,
+  not,
+  if◌then◌else◌,
+  Bool,
+  true,
+  false,
 }
 use Rattle.order_rules.specs.Form.{Form, Start, Same, After, Sync, Join, Side, Merge}
 use Rattle.turn_pulses.specs.TurnGraph.{TurnGraph}

@@ -1,6 +1,9 @@
 //! Laws of what is kept of acts that begin, each the contract of a function that does nothing.
 ghost use Rattle.turn_pulses.specs.LatestLaws.{
-    LastWriteCounts, LatestIsShown, NewestBeganLast, NewestValueIsShown,
+  LastWriteCounts,
+  LatestIsShown,
+  NewestBeganLast,
+  NewestValueIsShown,
 };
 
 /// The choice of the latest begin of an act is shown until it begins again.

@@ -1,0 +1,13 @@
+pub mod ActTests
+pub mod PortEnds
+pub mod Threads
+pub mod AllThreads
+pub mod Begun
+pub mod Registers
+pub mod Offers
+pub mod Data
+pub mod Rereads
+pub mod TurnMachines
+pub mod NodeBits
+pub mod StateBits
+pub mod Example
