@@ -1,0 +1,2 @@
+pub mod ModuleRun
+pub mod Meaning
