@@ -6,7 +6,7 @@ use Rattle.core_term.specs.Value.{Value, Outcome, Done, Wire, nothing}
 use Rattle.core_term.specs.Ends.{Sees, act_ends, found}
 use Rattle.core_term.specs.Acts.{OnPort, Sends}
 use Rattle.core_term.specs.TurnLaws.{answer}
-use Rattle.core_term.proofs.Offers.{first_by, found_is}
+use Rattle.core_term.proofs.source_runs.Offers.{first_by, found_is}
 
 -- a `send` is an act on its port
 pub on_its_port : (act : Act) (port : ℕ) → Sends act port → OnPort act port

@@ -16,8 +16,8 @@ use Rattle.core_term.specs.Graph.{HasFormOnce, StandsOnce}
 use Rattle.core_term.specs.Occurs.{SameRule}
 use Rattle.core_term.specs.TurnLaws.{times}
 use Rattle.core_term.specs.Reread.{deciding}
-use Rattle.core_term.proofs.Text.{one_term}
-use Rattle.core_term.proofs.TurnRules.{obeys_rules}
+use Rattle.core_term.proofs.turn_points.Text.{one_term}
+use Rattle.core_term.proofs.turn_points.TurnRules.{obeys_rules}
 use Rattle.turn_pulses.specs.TurnGraph.{TurnGraph}
 use Rattle.turn_pulses.specs.PulseMachine.{Seen}
 use Rattle.turn_machine.specs.TailEnds.{TailEnds, tail_ends, is_tail}

@@ -11,8 +11,8 @@ use Rattle.core_term.specs.Acts.{OnPort}
 use Rattle.core_term.specs.Points.{Spot, TermBegin, TermEnd, Begin, End, forms, act_forms}
 use Rattle.core_term.specs.Order.{IsFormed}
 use Rattle.core_term.specs.Graph.{HasFormOnce, StandsOnce}
-use Rattle.core_term.proofs.Acting.{each_site}
-use Rattle.core_term.proofs.OfText.{in_left, part}
+use Rattle.core_term.proofs.code_tables.Acting.{each_site}
+use Rattle.core_term.proofs.graph_tables.OfText.{in_left, part}
 
 begin_here : (term : Term) → IsFormed (forms term) (Begin (site (head term))) (Same (TermBegin (site (head term))))
 begin_here (One act) = inl refl

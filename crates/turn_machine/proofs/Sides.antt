@@ -12,8 +12,8 @@ use Rattle.core_term.specs.Tail.{IsTail}
 use Rattle.core_term.specs.Acts.{Asks}
 use Rattle.core_term.specs.Reread.{deciding}
 use Rattle.core_term.specs.TurnLaws.{Takes}
-use Rattle.core_term.proofs.Idle.{idle_not, gone as idle_gone}
-use Rattle.core_term.proofs.TurnRules.{obeys_rules}
+use Rattle.core_term.proofs.turn_points.Idle.{idle_not, gone as idle_gone}
+use Rattle.core_term.proofs.turn_points.TurnRules.{obeys_rules}
 use Rattle.turn_machine.specs.Draws.{IsSideOf, OfAct}
 use Rattle.turn_machine.proofs.Turns.{at, RunsAt, runs_at, begin_is, rule}
 

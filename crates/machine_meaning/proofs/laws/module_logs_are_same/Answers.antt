@@ -1,4 +1,4 @@
-use Rattle.core_term.proofs.SameLogs.{same_log}
+use Rattle.core_term.proofs.rereading.SameLogs.{same_log}
 use Rattle.machine_meaning.specs.ModuleRun.{shown_run}
 use Rattle.machine_meaning.proofs.laws.module_logs_are_same.Goals as goal
 

@@ -1,4 +1,4 @@
-use Rattle.core_term.proofs.Agreed.{agrees}
+use Rattle.core_term.proofs.rereading.Agreed.{agrees}
 use Rattle.machine_meaning.specs.ModuleRun.{shown_run}
 use Rattle.machine_meaning.proofs.laws.modules_agree.Goals as goal
 
