@@ -210,18 +210,18 @@ reset_by draft done reg number =
     if number.width == reg.width
     then Some (onward (with_reset draft done (reset_to reg number)) (resets_wanted (done + 1))) else None
 
-abbrev pub resets_step : Module → (done : ℕ) → Option SvReg → List ℕ → Option Reached
-resets_step draft done (Some reg) line =
+abbrev pub reset_value_step : Module → (done : ℕ) → Option SvReg → List ℕ → Option Reached
+reset_value_step draft done (Some reg) line =
     written reg.name line >>= (λ text. last_literal text >>= reset_by draft done reg)
-resets_step draft done None line = fixed (codes "    end else begin") draft nexts_wanted line
+reset_value_step draft done None line = fixed (codes "    end else begin") draft nexts_wanted line
 
 abbrev pub next_value : Module → SvReg → List ℕ → Option SvOperand
 next_value draft reg line =
     written reg.name line >>= (λ text. last_operand draft text >>= operand_of_width draft reg.width)
 
-abbrev pub nexts_step : Module → Option SvReg → List ℕ → Option Reached
-nexts_step draft (Some reg) line = next_value draft reg line >>= (λ x. Some (onward (with_next draft x) nexts_wanted))
-nexts_step draft None line = fixed (codes "    end") draft end_wanted line
+abbrev pub next_value_step : Module → Option SvReg → List ℕ → Option Reached
+next_value_step draft (Some reg) line = next_value draft reg line >>= (λ x. Some (onward (with_next draft x) nexts_wanted))
+next_value_step draft None line = fixed (codes "    end") draft end_wanted line
 
 -- Modules.
 
@@ -236,8 +236,8 @@ draft_step draft item_wanted line = item_step draft line
 draft_step draft (assign_wanted width) line = assign_step draft width line
 draft_step draft (second_wanted value) line = second_step draft value (slice_get draft.ports (length draft.outs)) line
 draft_step draft test_wanted line = fixed (codes "    if (!rst_ni) begin") draft (resets_wanted 0) line
-draft_step draft (resets_wanted done) line = resets_step draft done (slice_get draft.regs done) line
-draft_step draft nexts_wanted line = nexts_step draft (slice_get draft.regs (length draft.nexts)) line
+draft_step draft (resets_wanted done) line = reset_value_step draft done (slice_get draft.regs done) line
+draft_step draft nexts_wanted line = next_value_step draft (slice_get draft.regs (length draft.nexts)) line
 draft_step draft end_wanted line = fixed (codes "  end") draft last_wanted line
 draft_step draft last_wanted line = if bytes_eq line (codes "endmodule") then Some (finished draft) else None
 

@@ -1,6 +1,6 @@
 //! What the lines of the clock's block come to.
 ghost use Rattle.std.specs.Prelude.{◌≡◌, length, slice_get};
-ghost use Rattle.sv_lines.specs.Step.{next_value, nexts_step, resets_step};
+ghost use Rattle.sv_lines.specs.Step.{next_value, next_value_step, reset_value_step};
 ghost use Rattle.sv_reader.specs.Seen.{IsReading};
 ghost use Rattle.sv_reader.specs.SeenDraft.{draft_of, reached_of};
 
@@ -15,8 +15,12 @@ use std::alloc::Global;
 use sv_tree::{SvOperand, SvReg};
 
 /// The reset of the next register, or the line behind the resets.
-pub fn resets_step<'a>(draft: &mut Draft, done: usize, line: &'a [u8]) -> Result<Reached<'a>, Fault>
-    ensures { IsReading (reached_of draft.new) (resets_step (draft_of draft.old) done (slice_get draft.old.regs done) line.now) result }
+pub fn reset_value_step<'a>(
+    draft: &mut Draft,
+    done: usize,
+    line: &'a [u8],
+) -> Result<Reached<'a>, Fault>
+    ensures { IsReading (reached_of draft.new) (reset_value_step (draft_of draft.old) done (slice_get draft.old.regs done) line.now) result }
 {
     match draft.regs.get(done) {
         Some(reg) => {
@@ -57,12 +61,12 @@ fn next_value(alloc: Global, draft: &Draft, reg: &SvReg, line: &[u8]) -> Option<
 }
 
 /// The next value of the next register, or the line behind these.
-pub fn nexts_step<'a>(
+pub fn next_value_step<'a>(
     alloc: Global,
     draft: &mut Draft,
     line: &'a [u8],
 ) -> Result<Reached<'a>, Fault>
-    ensures { IsReading (reached_of draft.new) (nexts_step (draft_of draft.old) (slice_get draft.old.regs (length draft.old.nexts.items)) line.now) result }
+    ensures { IsReading (reached_of draft.new) (next_value_step (draft_of draft.old) (slice_get draft.old.regs (length draft.old.nexts.items)) line.now) result }
 {
     let read: &Draft = draft;
     match read.regs.get(read.nexts.len()) {

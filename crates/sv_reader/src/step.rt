@@ -4,7 +4,7 @@ ghost use Rattle.sv_lines.specs.Step.{draft_step, item_step};
 ghost use Rattle.sv_reader.specs.Seen.{IsReading};
 ghost use Rattle.sv_reader.specs.SeenDraft.{draft_of, reached_of, wanted_of};
 
-use crate::clock_steps::{nexts_step, resets_step};
+use crate::clock_steps::{next_value_step, reset_value_step};
 use crate::declarations::declared_step;
 use crate::draft::Draft;
 use crate::fault::Fault;
@@ -55,8 +55,8 @@ pub fn draft_step<'a>(
             fixed(line, b"    if (!rst_ni) begin")?;
             Ok(Reached::Onward(Wanted::Resets(0)))
         }
-        Wanted::Resets(done) => resets_step(draft, *done, line),
-        Wanted::Nexts => nexts_step(alloc, draft, line),
+        Wanted::Resets(done) => reset_value_step(draft, *done, line),
+        Wanted::Nexts => next_value_step(alloc, draft, line),
         Wanted::End => {
             fixed(line, b"  end")?;
             Ok(Reached::Onward(Wanted::Last))

@@ -16,7 +16,7 @@ use Rattle.sv_tree.specs.Text.{register_text, literal_text, operand_text, reset_
 use Rattle.sv_tree.specs.WellFormed.{is_number, is_register_name, operand_width, gives, reset_fits, nexts_fit}
 use Rattle.sv_lines.specs.Operands.{is_operand_byte}
 use Rattle.sv_lines.specs.State.{inside, resets_wanted, nexts_wanted}
-use Rattle.sv_lines.specs.Step.{onward, after_register, written, last_literal, resets_step, nexts_step}
+use Rattle.sv_lines.specs.Step.{onward, after_register, written, last_literal, reset_value_step, next_value_step}
 use Rattle.sv_lines.proofs.read.Decided.{same_number}
 use Rattle.sv_lines.proofs.read.PiecesRead.{StopsFirst, after_back, number_back, front_back, rest_back}
 use Rattle.sv_lines.proofs.back.Goes.{Quiet, Goes, stays, goes_then, goes_same}
@@ -71,10 +71,10 @@ regs_good_later reg regs good = record {
 }
 
 -- the reset behind those of `done`
-reset_step : (tree : Module) (outs : List SvOut) (done : List SvReg) (reg : SvReg) (regs : List SvReg) → is_small_name reg.name ≡ true → reset_fits reg ≡ true
-    → resets_step (with_all tree (done ++ (fresh reg ∷ map fresh regs)) outs []) (length done) (Some (fresh reg)) (register_gets reg.name (literal_text reg.reset))
+reset_value_back : (tree : Module) (outs : List SvOut) (done : List SvReg) (reg : SvReg) (regs : List SvReg) → is_small_name reg.name ≡ true → reset_fits reg ≡ true
+    → reset_value_step (with_all tree (done ++ (fresh reg ∷ map fresh regs)) outs []) (length done) (Some (fresh reg)) (register_gets reg.name (literal_text reg.reset))
     ≡ Some (onward (with_all tree (done ++ (reg ∷ map fresh regs)) outs []) (resets_wanted (length done + 1)))
-reset_step tree outs done reg regs small fits =
+reset_value_back tree outs done reg regs small fits =
     let parts = and_parts (is_number reg.reset) (reg.reset.width == reg.width) fits in
     rw (
       written_back reg.name (literal_text reg.reset) small,
@@ -98,8 +98,8 @@ resets_back whole tree outs done (reg ∷ regs) good fits =
     let begin = inside whole draft (resets_wanted (length done)) in
     let middle = inside whole next (resets_wanted (length done + 1)) in
     let end = inside whole (with_all tree (done ++ (reg ∷ regs)) outs []) (resets_wanted (length (done ++ (reg ∷ regs)))) in
-    let steps : resets_step draft (length done) (slice_get draft.regs (length done)) line ≡ Some (onward next (resets_wanted (length done + 1))) =
-    rw (seam done (fresh reg) (map fresh regs)) (reset_step tree outs done reg regs small fit.0) in
+    let steps : reset_value_step draft (length done) (slice_get draft.regs (length done)) line ≡ Some (onward next (resets_wanted (length done + 1))) =
+    rw (seam done (fresh reg) (map fresh regs)) (reset_value_back tree outs done reg regs small fit.0) in
     let first : Goes begin (line ++ (10 ∷ [])) middle =
     goes_draft whole draft next (resets_wanted (length done)) (resets_wanted (length done + 1)) line
     (gets_quiet reg.name (literal_text reg.reset) named small (quiet_operand (literal_text reg.reset) (literal_is_text reg.reset number_good).bytes)) steps in
@@ -125,11 +125,11 @@ reg_here : (tree : Module) (before : List SvReg) (reg : SvReg) (regs : List SvRe
     → slice_get tree.regs index ≡ Some reg
 reg_here tree before reg regs index all is = rw (← all, ← is) (seam before reg regs)
 
-next_step : (tree : Module) (outs : List SvOut) (done : List SvOperand) (reg : SvReg) (x : SvOperand) → Same tree tree.regs → is_small_name reg.name ≡ true
+next_value_back : (tree : Module) (outs : List SvOut) (done : List SvOperand) (reg : SvReg) (x : SvOperand) → Same tree tree.regs → is_small_name reg.name ≡ true
     → slice_get tree.regs (length done) ≡ Some reg → gives tree reg.width x ≡ true
-    → nexts_step (with_all tree tree.regs outs done) (slice_get tree.regs (length done)) (register_gets reg.name (operand_text tree x))
+    → next_value_step (with_all tree tree.regs outs done) (slice_get tree.regs (length done)) (register_gets reg.name (operand_text tree x))
     ≡ Some (onward (with_all tree tree.regs outs (done ++ (x ∷ []))) nexts_wanted)
-next_step tree outs done reg x same small there fits =
+next_value_back tree outs done reg x same small there fits =
     let draft = with_all tree tree.regs outs done in
     let stand = stand_all tree tree.regs outs done same in
     let of = operand_of_width_is tree (length tree.nets) reg.width x fits in
@@ -159,7 +159,7 @@ nexts_back whole tree outs before (reg ∷ regs) done (x ∷ nexts) fit =
     let first : Goes begin (line ++ (10 ∷ [])) middle =
     goes_draft whole draft next nexts_wanted nexts_wanted line
     (gets_quiet reg.name (operand_text tree x) named small (operand_quiet tree draft (length tree.nets) x (stand_all tree tree.regs outs done fit.same) of.stands))
-    (next_step tree outs done reg x fit.same small there parts.0) in
+    (next_value_back tree outs done reg x fit.same small there parts.0) in
     let fit_later : NextsFit tree (before ++ (reg ∷ [])) regs (done ++ (x ∷ [])) nexts = record {
       same = fit.same;
       all = append_assoc before (reg ∷ []) regs ∙ fit.all;

@@ -10,7 +10,7 @@ use Rattle.sv_tree.specs.Module.{Module}
 use Rattle.sv_tree.specs.Text.{port_lines, opening_lines, closing_line, register_line, net_lines, out_lines, reset_line, next_line, clock_opening_lines, clock_else_line, clock_closing_lines, clock_lines, last_line, module_text}
 use Rattle.sv_tree.specs.WellFormed.{is_well_formed}
 use Rattle.sv_lines.specs.State.{between, inside, item_wanted, test_wanted, resets_wanted, nexts_wanted, end_wanted, last_wanted}
-use Rattle.sv_lines.specs.Step.{onward, is_empty, item_step, resets_step, nexts_step, step, read_on}
+use Rattle.sv_lines.specs.Step.{onward, is_empty, item_step, reset_value_step, next_value_step, step, read_on}
 use Rattle.sv_lines.proofs.back.Goes.{Goes, goes_then, goes_line, goes_same}
 use Rattle.sv_lines.proofs.back.HeaderBack.{goes_draft, header_back}
 use Rattle.sv_lines.proofs.back.RegistersBack.{parts_of, fresh, regs_back}
@@ -67,8 +67,8 @@ block_back whole tree has some =
     let at_last = inside whole tree last_wanted in
     let behind = between (whole ++ (tree ∷ [])) in
     let always_step : item_step fresh_draft always ≡ Some (onward fresh_draft test_wanted) = rw (no_port tree has, some) refl in
-    let other_step : resets_step reset_draft (length tree.regs) (slice_get tree.regs (length tree.regs)) other ≡ Some (onward reset_draft nexts_wanted) = rw (no_reset tree) refl in
-    let end_step : nexts_step tree (slice_get tree.regs (length tree.nexts)) first_end ≡ Some (onward tree end_wanted) = rw (no_register tree has) refl in
+    let other_step : reset_value_step reset_draft (length tree.regs) (slice_get tree.regs (length tree.regs)) other ≡ Some (onward reset_draft nexts_wanted) = rw (no_reset tree) refl in
+    let end_step : next_value_step tree (slice_get tree.regs (length tree.nexts)) first_end ≡ Some (onward tree end_wanted) = rw (no_register tree has) refl in
     let goes_always : Goes at_items (always ++ (10 ∷ [])) at_test = goes_draft whole fresh_draft fresh_draft item_wanted test_wanted always refl always_step in
     let goes_test : Goes at_test (test ++ (10 ∷ [])) at_resets = goes_draft whole fresh_draft fresh_draft test_wanted (resets_wanted 0) test refl refl in
     let goes_resets : Goes at_resets resets at_else = resets_back whole tree tree.outs [] tree.regs (regs_good tree has) has.resets in

@@ -15,7 +15,7 @@ use Rattle.sv_tree.specs.WellFormed.{is_register_name, has_no_twice, is_same_reg
 use Rattle.sv_lines.specs.Pieces.{front_run, after_run}
 use Rattle.sv_lines.specs.Operands.{literal_of, is_operand_byte}
 use Rattle.sv_lines.specs.State.{resets_wanted, nexts_wanted, end_wanted, reset_to, with_reset, with_next}
-use Rattle.sv_lines.specs.Step.{Reached, onward, finished, is_empty, written, last_literal, resets_step, next_value, nexts_step}
+use Rattle.sv_lines.specs.Step.{Reached, onward, finished, is_empty, written, last_literal, reset_value_step, next_value, next_value_step}
 use Rattle.sv_lines.proofs.read.Decided.{passes, then_read, closes}
 use Rattle.sv_lines.proofs.read.Indices.{within}
 use Rattle.sv_lines.proofs.read.OperandsRead.{literal_read}
@@ -107,7 +107,7 @@ last_is_number text number e =
     rw (← ended.same) (literal_read (front_run is_operand_byte text) found is_found).good)
 
 resets_by_kept : (whole : List Module) (draft : Module) (done : ℕ) (found : Option SvReg) (line : List ℕ) (reached : Reached) → Drafted whole draft → ResetsBegun draft done
-    → slice_get draft.regs done ≡ found → resets_step draft done found line ≡ Some reached → KeptReached whole reached
+    → slice_get draft.regs done ≡ found → reset_value_step draft done found line ≡ Some reached → KeptReached whole reached
 resets_by_kept whole draft done (Some reg) line reached drafted at there e =
     then_read (written reg.name line) _ reached e (λ text is_text e.
     then_read (last_literal text) _ reached e (λ number is_number e.
@@ -123,7 +123,7 @@ resets_by_kept whole draft done None line reached drafted at there e =
     fixed_kept whole (codes "    end else begin") line draft nexts_wanted reached (record { drafted = drafted; at = at.wanted.clocked }) e
 
 pub resets_kept : (whole : List Module) (draft : Module) (done : ℕ) (line : List ℕ) (reached : Reached) → Drafted whole draft → ResetsBegun draft done
-    → resets_step draft done (slice_get draft.regs done) line ≡ Some reached → KeptReached whole reached
+    → reset_value_step draft done (slice_get draft.regs done) line ≡ Some reached → KeptReached whole reached
 resets_kept whole draft done line reached drafted at e = resets_by_kept whole draft done (slice_get draft.regs done) line reached drafted at refl e
 
 -- Next values.
@@ -150,7 +150,7 @@ with_next_clocked draft next at = record {
 }
 
 nexts_by_kept : (whole : List Module) (draft : Module) (found : Option SvReg) (line : List ℕ) (reached : Reached) → Drafted whole draft → Clocked draft
-    → slice_get draft.regs (length draft.nexts) ≡ found → nexts_step draft found line ≡ Some reached → KeptReached whole reached
+    → slice_get draft.regs (length draft.nexts) ≡ found → next_value_step draft found line ≡ Some reached → KeptReached whole reached
 nexts_by_kept whole draft (Some reg) line reached drafted at there e =
     then_read (next_value draft reg line) _ reached e (λ x is_x e.
     then_read (written reg.name line) _ x is_x (λ text is_text is_x.
@@ -164,7 +164,7 @@ nexts_by_kept whole draft None line reached drafted at there e =
     (record { drafted = drafted; at = record { clocked = at; nexts = nexts_complete draft draft.regs draft.nexts drafted.nexts there } }) e
 
 pub nexts_kept : (whole : List Module) (draft : Module) (line : List ℕ) (reached : Reached) → Drafted whole draft → Clocked draft
-    → nexts_step draft (slice_get draft.regs (length draft.nexts)) line ≡ Some reached → KeptReached whole reached
+    → next_value_step draft (slice_get draft.regs (length draft.nexts)) line ≡ Some reached → KeptReached whole reached
 nexts_kept whole draft line reached drafted at e = nexts_by_kept whole draft (slice_get draft.regs (length draft.nexts)) line reached drafted at refl e
 
 pub last_kept : (whole : List Module) (draft : Module) (line : List ℕ) (reached : Reached) → Drafted whole draft → Ended draft

@@ -14,7 +14,7 @@ use Rattle.sv_tree.specs.Text.{port_lines, opening_lines, closing_line, register
 use Rattle.sv_lines.specs.Pieces.{after, front_run, after_run, number_at}
 use Rattle.sv_lines.specs.Operands.{literal_of, is_operand_byte, last_operand}
 use Rattle.sv_lines.specs.State.{resets_wanted, nexts_wanted, end_wanted, last_wanted, reset_to, with_reset, with_next, items_text, resets_text, nexts_text, draft_text}
-use Rattle.sv_lines.specs.Step.{Reached, onward, finished, is_empty, after_register, written, last_literal, resets_step, next_value, nexts_step}
+use Rattle.sv_lines.specs.Step.{Reached, onward, finished, is_empty, after_register, written, last_literal, reset_value_step, next_value, next_value_step}
 use Rattle.sv_lines.proofs.read.Decided.{passes, bytes_same, number_same, closes, then_read}
 use Rattle.sv_lines.proofs.read.PiecesRead.{after_read, run_joined, number_read}
 use Rattle.sv_lines.proofs.read.OperandsRead.{literal_read, last_read}
@@ -89,7 +89,7 @@ else_text tree done no_nexts is_none =
     grouped a b c d = simp (append_assoc, append-nil)
 
 pub resets_kept : (tree : Module) (done : ℕ) (found : Option SvReg) (line : List ℕ) (reached : Reached) → tree.nexts ≡ [] → slice_get tree.regs done ≡ found
-    → resets_step tree done found line ≡ Some reached → reached_text reached ≡ with_line (draft_text tree (resets_wanted done)) line
+    → reset_value_step tree done found line ≡ Some reached → reached_text reached ≡ with_line (draft_text tree (resets_wanted done)) line
 unfolding draft_text
 resets_kept tree done (Some reg) line reached no_nexts is_reg e =
     then_read (written reg.name line) _ reached e (λ text is_text e.
@@ -137,7 +137,7 @@ next_read tree reg line x e =
     })))
 
 pub nexts_kept : (tree : Module) (found : Option SvReg) (line : List ℕ) (reached : Reached) → slice_get tree.regs (length tree.nexts) ≡ found
-    → nexts_step tree found line ≡ Some reached → reached_text reached ≡ with_line (draft_text tree nexts_wanted) line
+    → next_value_step tree found line ≡ Some reached → reached_text reached ≡ with_line (draft_text tree nexts_wanted) line
 unfolding draft_text
 nexts_kept tree (Some reg) line reached is_reg e =
     then_read (next_value tree reg line) _ reached e (λ x is_x e.
