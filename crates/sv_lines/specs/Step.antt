@@ -220,7 +220,8 @@ next_value draft reg line =
     written reg.name line >>= (λ text. last_operand draft text >>= operand_of_width draft reg.width)
 
 abbrev pub next_value_step : Module → Option SvReg → List ℕ → Option Reached
-next_value_step draft (Some reg) line = next_value draft reg line >>= (λ x. Some (onward (with_next draft x) nexts_wanted))
+next_value_step draft (Some reg) line =
+    next_value draft reg line >>= (λ x. Some (onward (with_next draft x) nexts_wanted))
 next_value_step draft None line = fixed (codes "    end") draft end_wanted line
 
 -- Modules.
