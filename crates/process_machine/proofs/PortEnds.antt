@@ -1,5 +1,5 @@
 -- An act on a port ends where its wire is 1, and no later than any such cycle of the list from its begin on.
-use Rattle.std.proofs.Common.{◌≡◌, ℕ, ◌+◌, ◌-◌, ◌<◌, ◌≤◌, arith, ap, [], ◌∷◌, true, Some}
+use Rattle.std.proofs.Common.{◌≡◌, ℕ, ◌-◌, ◌<◌, ◌≤◌, arith, ap, [], ◌∷◌, true, Some}
 use Rattle.core_term.specs.Inputs.{Inputs}
 use Rattle.core_term.specs.Term.{Act, Cycle, Set, Send, Recv, If, When, Block, Wait, Pure, Nothing}
 use Rattle.core_term.specs.Value.{Value, Outcome, Done, Wire, nothing}

@@ -2,7 +2,7 @@
 --
 -- One thread alone sets a register, so what comes through all threads is what that thread writes: the value of the last of its
 -- `set`s that begin in the cycle. Where no `set` of the register begins, every thread leaves what is shown.
-use Rattle.std.proofs.Common.{◌≡◌, ℕ, ◌+◌, ◌<◌, ◌≤◌, arith, refl, sym, ◌∙◌, subst, List, []}
+use Rattle.std.proofs.Common.{◌≡◌, ℕ, ◌+◌, ◌<◌, ◌≤◌, arith, refl, ◌∙◌, subst, List, []}
 use Rattle.core_term.specs.Inputs.{Inputs}
 use Rattle.core_term.specs.Term.{Expr, Act, head}
 use Rattle.core_term.specs.Numbering.{size}

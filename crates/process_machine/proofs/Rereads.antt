@@ -1,5 +1,5 @@
 -- What the machine of a process shows is a re-reading run of the process: decisions and sides thread by thread, registers, and wires.
-use Rattle.std.proofs.Common.{ℕ, sym, ◌∙◌}
+use Rattle.std.proofs.Common.{sym, ◌∙◌}
 use Rattle.core_term.specs.Inputs.{Inputs}
 use Rattle.core_term.specs.Process.{Process, IsProcess}
 use Rattle.core_term.specs.Reread.{IsReread}

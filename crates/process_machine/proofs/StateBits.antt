@@ -7,7 +7,7 @@ use Rattle.core_term.specs.Term.{Term, One, Then, Both, Act, Cycle, Set, Send, R
 use Rattle.core_term.specs.Points.{Formed, forms, act_forms}
 use Rattle.core_term.specs.Process.{Thread, IsThread}
 use Rattle.turn_machine.specs.OneTurn.{turn_points}
-use Rattle.process_machine.specs.StateBits.{node_bits, acts_bits, act_bits, body_bound, act_bound, thread_bits, threads_bits, threads_bound, ThreadNodes, KeepsLive}
+use Rattle.process_machine.specs.StateBits.{acts_bits, act_bits, body_bound, act_bound, thread_bits, threads_bits, threads_bound, ThreadNodes, KeepsLive}
 use Rattle.process_machine.proofs.NodeBits.{points_bits, drawn_within, kept_within}
 use Rattle.process_machine.proofs.AllThreads.{from_next, at_first}
 

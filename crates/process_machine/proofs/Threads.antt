@@ -2,7 +2,7 @@
 --
 -- The pulse of an act's begin says that it begins in some turn, and the offer of an act on a port that it has begun and has not
 -- ended before. The side that is shown is that of the latest decision, so decisions and sides are those of a re-reading run.
-use Rattle.std.proofs.Common.{◌≡◌, ℕ, ◌<◌, ◌≤◌, ◌==◌, ◌||◌, ◌⊎◌, inl, inr, arith, refl, sym, ◌∙◌, ap, List, [], Bool, true, false}
+use Rattle.std.proofs.Common.{◌≡◌, ℕ, ◌<◌, ◌≤◌, ◌==◌, ◌||◌, ◌⊎◌, inl, inr, arith, refl, sym, ◌∙◌, ap, List, [], false}
 use Rattle.std.proofs.lemmas.Bool.{cases_lt}
 use Rattle.core_term.specs.Inputs.{Inputs}
 use Rattle.core_term.specs.Term.{Expr, Term, Act, Cycle, Set, Send, Recv, If, When, Block, Wait, Pure, Nothing, site, head}

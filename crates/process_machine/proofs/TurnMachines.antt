@@ -1,6 +1,6 @@
 -- A machine over nodes that stand for the points of one turn is a machine of the thread: the graph that is read off the nodes draws the
 -- turn, and the node of each point is where the machine looks for it.
-use Rattle.std.proofs.Common.{ℕ, [], arith}
+use Rattle.std.proofs.Common.{ℕ, arith}
 use Rattle.core_term.specs.Inputs.{Inputs}
 use Rattle.core_term.specs.Term.{Term, site, head}
 use Rattle.core_term.specs.Points.{Begin}

@@ -3,14 +3,14 @@
 -- A node that stands for points has one of them whose form it has, and all of them come together, since they are reached from one
 -- point by points of the form Same. So what the text says of that point holds of the node, and the nodes of a point's predecessors
 -- draw points that come with them.
-use Rattle.std.proofs.Common.{not, ◌≡◌, ℕ, ◌⊎◌, inl, inr, refl, sym, ◌∙◌, ap, subst, Bool, true, false, List, [], ◌∷◌, Option, Some, None}
+use Rattle.std.proofs.Common.{not, ◌≡◌, ℕ, ◌⊎◌, inl, inr, refl, sym, ◌∙◌, ap, subst, Bool, true, false, List, [], Option, Some, None}
 use Rattle.order_rules.specs.Form.{Form, Start, Same, After, Sync, Join, Side, Merge}
 use Rattle.order_rules.specs.Standing.{map_form, Chain, stop, same, IsPoint, AllOf}
 use Rattle.core_term.specs.Inputs.{Inputs}
 use Rattle.core_term.specs.Term.{Term, Act, Cycle, Set, Send, Recv, If, When, Block, Wait, Pure, Nothing, site, head}
 use Rattle.core_term.specs.Stands.{Stands}
 use Rattle.core_term.specs.Acts.{OnPort}
-use Rattle.core_term.specs.Points.{Spot, TermBegin, TermEnd, End, NoSide, Formed, ◌is◌, forms}
+use Rattle.core_term.specs.Points.{Spot, TermBegin, TermEnd, End, NoSide, ◌is◌, forms}
 use Rattle.core_term.specs.Order.{IsFormed}
 use Rattle.core_term.specs.Graph.{HasFormOnce, StandsOnce}
 use Rattle.core_term.specs.Occurs.{SameRule}

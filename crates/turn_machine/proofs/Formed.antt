@@ -1,7 +1,7 @@
 -- Points that every body has: the begin of each act, the end of each act on a port, and its own end.
 --
 -- A term stands at each site, and its forms are among those of the body.
-use Rattle.std.proofs.Common.{◌≡◌, ℕ, ◌<◌, ◌⊎◌, inl, inr, refl, subst, Bool, List, [], ◌++◌}
+use Rattle.std.proofs.Common.{◌≡◌, ℕ, ◌<◌, ◌⊎◌, inl, inr, refl, subst, Bool, List, []}
 use Rattle.order_rules.specs.Form.{Form, Same, Sync, Join}
 use Rattle.order_rules.specs.Standing.{IsPoint}
 use Rattle.core_term.specs.Term.{Term, One, Then, Both, Act, Cycle, Set, Send, Recv, If, When, Block, Wait, Pure, Nothing, site, head}

@@ -2,7 +2,7 @@
 --
 -- There: by induction over the parts of the tail; from the end of a part its own ends are reached, and what is no part of the tail has no
 -- end of it. Back: the predecessors of a node of the tail are of the tail, unless the node is a delay.
-use Rattle.std.proofs.Common.{◌≡◌, ℕ, ◌+◌, ◌<◌, ◌≤◌, ◌⊎◌, inl, inr, arith, refl, sym, ◌∙◌, ap, subst, Bool, true, false, List, [], ◌∷◌, ◌++◌}
+use Rattle.std.proofs.Common.{◌≡◌, ℕ, ◌+◌, ◌<◌, ◌⊎◌, inl, inr, arith, refl, sym, ◌∙◌, ap, subst, Bool, true, false, List, [], ◌∷◌, ◌++◌}
 use Rattle.order_rules.specs.Form.{Form, Same, Join, Merge}
 use Rattle.core_term.specs.Term.{Term, One, Then, Both, Act, Cycle, Set, Send, Recv, If, When, Block, Wait, Pure, Nothing, site, head}
 use Rattle.core_term.specs.Numbering.{size, act_size, Numbered, NumberedAct}

@@ -4,13 +4,13 @@
 -- for those that its form names; where it falls in its turn is known from the turns. The hard case is a join that does not forget: it
 -- is the join of a chain whose parts begin together, so where one end has come the chain's first act has run, and in a turn that ends
 -- the chain has ended, for which both ends must have come.
-use Rattle.std.proofs.Common.{◌≡◌, ℕ, ◌+◌, ◌<◌, ◌≤◌, ◌⊎◌, inl, inr, ◌↔◌, arith, refl, sym, ◌∙◌, ap, [], Bool, true, false, if◌then◌else◌, nat_lt, Option, Some, None}
+use Rattle.std.proofs.Common.{◌≡◌, ℕ, ◌+◌, ◌<◌, ◌⊎◌, inl, inr, ◌↔◌, arith, refl, sym, ◌∙◌, ap, [], Bool, true, false, if◌then◌else◌, nat_lt, Some, None}
 use Rattle.std.proofs.lemmas.Bool.Decides.{nat_tests}
 use Rattle.order_rules.specs.Form.{Form, Start, Same, After, Sync, Join, Side, Merge}
 use Rattle.core_term.specs.Inputs.{Inputs}
-use Rattle.core_term.specs.Term.{Term, site, head}
+use Rattle.core_term.specs.Term.{Term}
 use Rattle.core_term.specs.Ends.{Sees}
-use Rattle.core_term.specs.Points.{Spot, TermBegin, TermEnd, Begin, End, forms}
+use Rattle.core_term.specs.Points.{Spot, TermBegin, TermEnd, End, forms}
 use Rattle.core_term.specs.Occurs.{Occurrence, At, begin_at, MergeRule}
 use Rattle.core_term.specs.Numbering.{Numbered}
 use Rattle.core_term.specs.Order.{IsFormed}

@@ -7,7 +7,7 @@ use Rattle.order_rules.specs.Form.{Form, Start, Same, After, Sync, Join, Side, M
 use Rattle.order_rules.specs.Entry.{IsEarlier}
 use Rattle.order_rules.specs.Standing.{map_form, AllOf}
 use Rattle.core_term.specs.Term.{Term, site, head}
-use Rattle.core_term.specs.Points.{Spot, TermBegin, TermEnd}
+use Rattle.core_term.specs.Points.{Spot, TermEnd}
 use Rattle.core_term.specs.Graph.{StandsOnce}
 use Rattle.turn_pulses.specs.TurnGraph.{TurnGraph, IsNode, IsTailNode, IsTurnGraph}
 use Rattle.turn_machine.specs.TailEnds.{TailEnds, tail_ends, is_tail}

@@ -25,7 +25,7 @@ use Rattle.core_term.proofs.turn_points.Strict.{takes, act_takes}
 use Rattle.core_term.proofs.turn_points.Placed.{some_start, begins_short, begin_since, turn_end}
 use Rattle.core_term.proofs.rereading.Decide.{within as is_within}
 use Rattle.core_term.proofs.turn_points.TurnRules.{obeys_rules}
-use Rattle.turn_machine.specs.TailEnds.{TailEnds, AreTailEnds, is_tail, tail_ends}
+use Rattle.turn_machine.specs.TailEnds.{TailEnds, is_tail, tail_ends}
 use Rattle.turn_machine.proofs.TailEnds.{tail_ends_are}
 use Rattle.turn_machine.proofs.Windows.{Fits, FitsIn, Falls, all_fit}
 use Rattle.turn_machine.proofs.TailActs.{take_time}

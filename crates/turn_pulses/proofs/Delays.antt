@@ -2,7 +2,7 @@
 --
 -- The hard case is a load while the counter still runs: another turn would have to begin its delay before this one is over. It
 -- cannot, since the end of the delay is of the earlier turn and so no later than any node of the later one.
-use Rattle.std.proofs.Common.{◌≡◌, ℕ, ◌+◌, ◌-◌, ◌<◌, ◌≤◌, ◌==◌, ◌⊎◌, inl, inr, arith, refl, sym, ◌∙◌, Bool, true, false}
+use Rattle.std.proofs.Common.{◌≡◌, ℕ, ◌+◌, ◌-◌, ◌<◌, ◌≤◌, ◌==◌, ◌⊎◌, inl, inr, arith, sym, ◌∙◌, true}
 use Rattle.std.proofs.lemmas.Bool.{cases_eq, cases_lt, cases_order}
 use Rattle.std.proofs.lemmas.Bool.Decides.{nat_tests}
 use Rattle.order_rules.specs.Form.{After}

@@ -3,7 +3,7 @@
 -- The new bit is the exclusive or of the old one and of both pulses, so there are eight cases. With the old bit and both pulses one
 -- end would come twice, which no turn has. Each other case says of the two ends which has come by the end of this cycle; in those
 -- where the new bit is 0, a turn in which one alone has come would have to be the turn of this cycle, in which both have or none.
-use Rattle.std.proofs.Common.{◌≡◌, ℕ, ◌+◌, ◌-◌, ◌<◌, ◌≤◌, ◌⊎◌, inl, inr, arith, refl, Bool, true, false}
+use Rattle.std.proofs.Common.{◌≡◌, ℕ, ◌+◌, ◌-◌, ◌<◌, ◌≤◌, ◌⊎◌, inl, inr, arith, refl, true, false}
 use Rattle.std.proofs.lemmas.Bool.{cases_lt}
 use Rattle.order_rules.specs.Form.{Join}
 use Rattle.turn_pulses.specs.TurnGraph.{TurnGraph}

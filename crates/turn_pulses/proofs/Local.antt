@@ -3,7 +3,7 @@
 -- The timeline says when a node of each form occurs, and the equation of its net says the same of the pulses of its predecessors,
 -- so each case reads the one off the other. A wait occurs where its begin occurs now or has occurred before, and its wire is 1;
 -- its bit is set where the wire is not.
-use Rattle.std.proofs.Common.{◌≡◌, ℕ, ◌+◌, ◌<◌, ◌≤◌, ◌⊎◌, inl, inr, ◌↔◌, arith, refl, Bool, true, false, zero, suc}
+use Rattle.std.proofs.Common.{◌≡◌, ℕ, ◌+◌, ◌<◌, ◌≤◌, ◌⊎◌, inl, inr, ◌↔◌, arith, refl, true, false, zero, suc}
 use Rattle.std.proofs.lemmas.Bool.{cases_lt}
 use Rattle.order_rules.specs.Form.{Form, Start, Same, Sync, Side, Merge}
 use Rattle.turn_pulses.specs.TurnGraph.{TurnGraph}
