@@ -115,7 +115,8 @@ pub fn draw_side_shown(
     ensures stands { IfOk result (λ drawn. Stands netlist.new drawn) }
     ensures width { IfOk result (λ drawn. drawn.width ≡ first.now.width) }
     ensures shows { IfOk result (λ drawn. Shows netlist.new drawn
-        (λ now. choice_of (shown now (signal_at places.now.sides.now site)) (shown now first.now) (shown now second.now))) }
+        (λ now. choice_of (shown now (signal_at places.now.sides.now site)) (shown now first.now)
+        (shown now second.now))) }
 {
     let value = netlist.choose(&places.sides[site as usize], first, second)?;
     Ok(value)
