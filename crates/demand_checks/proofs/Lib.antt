@@ -1,0 +1,17 @@
+pub mod Listed
+pub mod Numbers
+pub mod DeedsRead
+pub mod Deeds
+pub mod ReadsRead
+pub mod RestsRead
+pub mod Inside
+pub mod Pointed
+pub mod Answered
+pub mod Filtered
+pub mod PairOrder
+pub mod OneRule
+pub mod Loops
+pub mod Inverted
+pub mod SitesHave
+pub mod Merge
+pub mod FileList

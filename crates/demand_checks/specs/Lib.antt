@@ -1,0 +1,13 @@
+pub mod Deeds
+pub mod Reads
+pub mod Rests
+pub mod Found
+pub mod Merged
+pub mod Files
+pub mod Places
+pub mod Answers
+pub mod Pairs
+pub mod Sites
+pub mod Unshown
+pub mod Thread
+pub mod Judge

@@ -1,0 +1,3 @@
+pub mod SitesRead
+pub mod EndsAdded
+pub mod LastsFilled

@@ -1,0 +1,3 @@
+pub mod Sites
+pub mod Ends
+pub mod Lives

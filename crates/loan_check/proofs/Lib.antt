@@ -1,0 +1,4 @@
+pub mod OtherSets
+pub mod ChoiceDemands
+pub mod RegisterDemands
+pub mod BothRules

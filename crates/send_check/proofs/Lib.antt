@@ -1,0 +1,4 @@
+pub mod Truth
+pub mod Demanded
+pub mod Clashing
+pub mod FoundTo

@@ -1,0 +1,4 @@
+pub mod Earlier
+pub mod OfThread
+pub mod OfFile
+pub mod Refusal

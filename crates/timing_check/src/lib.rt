@@ -1,0 +1,12 @@
+//! The timing rules of a file: the file as an accepted one, or its first violation.
+#![tactic(auto)]
+
+mod check;
+mod earlier;
+mod files;
+mod refusal;
+mod threads;
+
+pub use check::check_timing;
+pub use core_term::{Accepted, CoreFile, Rule};
+pub use refusal::TimingErr;

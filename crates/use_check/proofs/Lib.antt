@@ -1,0 +1,4 @@
+pub mod Ends
+pub mod MadeDemands
+pub mod WireDemands
+pub mod BothRules
