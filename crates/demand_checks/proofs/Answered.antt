@@ -1,9 +1,8 @@
 -- There are right answers for each thread, and what they show of a demand tells whether it holds.
-use Rattle.std.proofs.Common.{◌≡◌, ℕ, ◌<◌, ◌≤◌, ◌⊎◌, inl, inr, arith, refl, sym, ◌∙◌, ap, subst, List, [], Bool, true, false, Option, Some, None}
+use Rattle.std.proofs.Common.{◌≡◌, ℕ, ◌<◌, ◌≤◌, ◌⊎◌, inl, inr, arith, refl, sym, ap, subst, List, [], Bool, true, false}
 use Rattle.std.specs.Prelude.{ℤ, ◌||◌, ◌&&◌}
 use Rattle.std.proofs.lemmas.Bool.{cases_lt}
 use Rattle.order_rules.specs.Lag.{Lag, Admits}
-use Rattle.order_rules.specs.Standing.{IsPoint}
 use Rattle.order_rules.proofs.Table.{decide}
 use Rattle.core_term.specs.declared.rules.Rule.{Rule}
 use Rattle.core_term.specs.Term.{Term, Act, Cycle, Set, Send, Recv, If, When, Block, Wait, Pure, Nothing, site, head}
@@ -11,10 +10,10 @@ use Rattle.core_term.specs.Numbering.{size, Numbered}
 use Rattle.core_term.specs.Stands.{Stands}
 use Rattle.core_term.specs.Acts.{HasAct, Sends}
 use Rattle.core_term.specs.Process.{Process, life_of}
-use Rattle.core_term.specs.Order.{Point, HasForm, Precedes, spot_site}
+use Rattle.core_term.specs.Order.{Point, spot_site}
 use Rattle.core_term.specs.Lives.{LastPrecedes}
-use Rattle.core_term.specs.Graph.{Graph, IsGraphOf, Tables, Shows, IsOfText}
-use Rattle.core_term.specs.Rules.{Claim, Order, Last, Either, Both, Holds, Demands, RestsOn, use_by, made, sets, receives, sends, sends_next, wire_within, wire_until, set_elsewhere, set_here, choice}
+use Rattle.core_term.specs.Graph.{Graph, IsGraphOf, Tables, IsOfText}
+use Rattle.core_term.specs.Rules.{Claim, Order, Last, Either, Both, Holds, Demands, use_by, made, sets, receives, sends, sends_next, wire_within, wire_until, set_elsewhere, set_here, choice}
 use Rattle.core_term.proofs.graph_tables.OfText.{of_text, end_real}
 use Rattle.core_term.proofs.graph_tables.Told.{tables, order_told, last_told}
 use Rattle.event_points.specs.Endings.{graph_of}

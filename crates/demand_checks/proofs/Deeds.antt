@@ -1,11 +1,11 @@
 -- The deed of a site tells the act that stands there, both ways.
-use Rattle.std.proofs.Common.{◌≡◌, ℕ, ◌<◌, ◌≤◌, ◌⊎◌, inl, inr, arith, refl, sym, ◌∙◌, ap, subst, List, [], length, slice_get, Option, Some, None}
+use Rattle.std.proofs.Common.{◌≡◌, ℕ, inl, inr, arith, sym, ◌∙◌, ap, subst, List, []}
 use Rattle.std.proofs.lemmas.Bool.{cases_lt}
 use Rattle.std.proofs.lemmas.Option.{slice_get_past}
 use Rattle.core_term.specs.Term.{Term, Act, Cycle, Set, Send, Recv, If, When, Block, Wait, Pure, Nothing, site, head}
 use Rattle.core_term.specs.Numbering.{size, Numbered}
 use Rattle.core_term.specs.Stands.{Stands}
-use Rattle.core_term.specs.Acts.{HasAct, Receives, Sends, Sets, OnPort, IsAt}
+use Rattle.core_term.specs.Acts.{HasAct, Receives, Sends, Sets, IsAt}
 use Rattle.core_term.proofs.code_tables.Acting.{each_site}
 use Rattle.demand_checks.specs.declared.deed.Deed.{Deed}
 use Rattle.demand_checks.specs.declared.deed.Deed.TheVariants as deed

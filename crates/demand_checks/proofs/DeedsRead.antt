@@ -1,7 +1,7 @@
 -- What the code reads off a body is the deed of each act at its site.
 --
 -- The list goes through the body in tree order, and the acts of a numbered body have their numbers in that order.
-use Rattle.std.proofs.Common.{◌≡◌, ℕ, ◌+◌, ◌≤◌, arith, refl, sym, ◌∙◌, ap, subst, List, [], ◌∷◌, ◌++◌, length, zero, suc, slice_get, Option, Some, None, true, false}
+use Rattle.std.proofs.Common.{◌≡◌, ℕ, ◌+◌, ◌≤◌, arith, refl, sym, ◌∙◌, ap, subst, List, [], ◌∷◌, ◌++◌, length, zero, suc, slice_get, Some, None}
 use Rattle.core_term.specs.declared.term.CoreTerm.{CoreTerm, One', Then', Both'}
 use Rattle.core_term.specs.declared.term.CoreKind as kind
 use Rattle.core_term.specs.declared.term.CoreKind.{CoreKind, Held-CoreKind-If-2, None', Some'}
@@ -9,13 +9,13 @@ use Rattle.core_term.specs.Term.{Term, One, Then, Both, Act, Cycle, Set, Send, R
 use Rattle.core_term.specs.Numbering.{size, act_size, Numbered, NumberedAct}
 use Rattle.core_term.specs.Stands.{Stands, StandsIn, here, in_one, in_then, after_then, in_both, after_both, in_yes, in_no, in_when, in_block}
 use Rattle.core_term.specs.Widths.{Widths}
-use Rattle.core_term.specs.View.{term_of, act_of, else_of, after_act}
+use Rattle.core_term.specs.View.{term_of, act_of, after_act}
 use Rattle.core_term.specs.Body.{IsBody}
 use Rattle.core_term.proofs.code_tables.Counted.{counted as places_counted}
-use Rattle.core_term.proofs.turn_points.Idle.{head_site, act_site}
+use Rattle.core_term.proofs.turn_points.Idle.{act_site}
 use Rattle.demand_checks.specs.declared.deed.Deed.{Deed}
 use Rattle.demand_checks.specs.declared.deed.Deed.TheVariants.{Other}
-use Rattle.demand_checks.specs.Deeds.{AreDeeds, deed_in, deed_of, deeds_of, deeds_in, deeds_of_else}
+use Rattle.demand_checks.specs.Deeds.{AreDeeds, deed_in, deed_of, deeds_of, deeds_in}
 use Rattle.demand_checks.proofs.Listed.{Sits, sits_whole, sits_first, sits_rest, sits_left, sits_right, both, end_nothing}
 
 -- of the acts of a plain term

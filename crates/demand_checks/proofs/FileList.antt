@@ -1,11 +1,10 @@
 -- The violations of a file: those of its threads one list after the other, and the first of them.
-use Rattle.std.proofs.Common.{◌≡◌, ℕ, ◌+◌, ◌<◌, ◌≤◌, ◌⊎◌, inl, inr, arith, refl, sym, ◌∙◌, ap, subst, List, [], ◌∷◌, ◌++◌, map, zero, suc}
+use Rattle.std.proofs.Common.{◌≡◌, ℕ, ◌+◌, ◌<◌, ◌⊎◌, inl, inr, arith, refl, sym, ◌∙◌, ap, subst, List, [], ◌∷◌, ◌++◌, map, zero, suc}
 use Rattle.core_term.specs.declared.rules.Rule.{Rule}
 use Rattle.core_term.specs.declared.rules.Rule.TheVariants.{V2, V3, V4, V5, V6, V7, V8}
 use Rattle.core_term.specs.declared.rules.Violation.{Violation}
 use Rattle.core_term.specs.Lists.{Has}
 use Rattle.core_term.specs.Process.{Process, Thread, IsThread}
-use Rattle.core_term.specs.Term.{Term}
 use Rattle.core_term.specs.Rules.{Claim, Holds, Demands}
 use Rattle.core_term.specs.Violations.{Broken, ComesBefore, IsAscending as Rises, IsBroken, IsNth, IsViolations, rule_number}
 use Rattle.demand_checks.specs.Found.{ComesEarlier, IsAscending, Fails, AreViolations}

@@ -4,7 +4,7 @@ use Rattle.order_rules.specs.Form.{Form, Start, Same, After, Sync, Join, Side, M
 use Rattle.order_rules.specs.Standing.{IsPoint}
 use Rattle.core_term.specs.Term.{Term, One, Then, Both, Act, Cycle, Set, Send, Recv, If, When, Block, Wait, Pure, Nothing, site, head}
 use Rattle.core_term.specs.Numbering.{size, act_size, Numbered, NumberedAct}
-use Rattle.core_term.specs.Points.{Spot, Formed, ◌is◌, forms, act_forms}
+use Rattle.core_term.specs.Points.{Spot, forms, act_forms}
 use Rattle.core_term.specs.Order.{Point, IsFormed, HasForm, spot_site}
 use Rattle.core_term.proofs.turn_points.Formed.{Every, every_append, at_form}
 use Rattle.core_term.proofs.turn_points.Idle.{head_site, act_site, size_positive}

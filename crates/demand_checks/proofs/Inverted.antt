@@ -1,8 +1,8 @@
 -- What the demands of a rule are, rule by rule; and what an act uses, told by its deed.
-use Rattle.std.proofs.Common.{◌≡◌, ℕ, ◌⊎◌, inl, inr, refl, sym, ◌∙◌, ap, subst, List, []}
+use Rattle.std.proofs.Common.{◌≡◌, ℕ, ◌⊎◌, inl, inr, refl, sym, ◌∙◌, ap, List, []}
 use Rattle.std.specs.Prelude.{ℤ, pos, ◌-ℤ◌}
 use Rattle.core_term.specs.declared.rules.Rule.{Rule}
-use Rattle.core_term.specs.declared.rules.Rule.TheVariants.{V2, V3, V4, V5, V6, V7, V8}
+use Rattle.core_term.specs.declared.rules.Rule.TheVariants.{V2, V6, V7, V8}
 use Rattle.core_term.specs.Lists.{Has}
 use Rattle.core_term.specs.Term.{Term, Act, Cycle, Set, Send, Recv, If, When, Block, Wait, Pure, Nothing, site, head}
 use Rattle.core_term.specs.Stands.{Stands}
@@ -10,9 +10,9 @@ use Rattle.core_term.specs.Acts.{Receives, HasAct, ActOn, SetAt}
 use Rattle.core_term.specs.Process.{Cycles, Until, Process, life_of}
 use Rattle.core_term.specs.Order.{Point}
 use Rattle.core_term.specs.Sources.{WireOf, RegOf, ChoiceOf}
-use Rattle.core_term.specs.Rules.{Claim, Order, Last, Either, Both, Demands, RestsOn, begin_of, end_of, next_begin_of, next_end_of, use_by, made, sets, receives, sends, sends_next, wire_within, wire_until, set_elsewhere, set_here, choice}
+use Rattle.core_term.specs.Rules.{Claim, Order, Either, Both, Demands, RestsOn, begin_of, end_of, next_begin_of, next_end_of, use_by, made, sets, receives, sends, sends_next, wire_within, wire_until, set_elsewhere, set_here, choice}
 use Rattle.demand_checks.specs.declared.deed.Deed.{Deed}
-use Rattle.demand_checks.specs.Deeds.{AreDeeds, deed_at, deed_in, used, used_with}
+use Rattle.demand_checks.specs.Deeds.{AreDeeds, deed_in, used, used_with}
 use Rattle.demand_checks.specs.Thread.{IsSetElsewhere}
 use Rattle.demand_checks.specs.Reads.{IsRead}
 use Rattle.demand_checks.specs.Rests.{IsUse}

@@ -8,7 +8,7 @@ use Rattle.core_term.specs.Process.{Process}
 use Rattle.core_term.specs.Term.{Term}
 use Rattle.core_term.specs.Rules.{Claim, Holds, Demands}
 use Rattle.core_term.specs.Violations.{rule_number}
-use Rattle.demand_checks.specs.Found.{ComesEarlier, IsAscending, Fails, AreViolations}
+use Rattle.demand_checks.specs.Found.{IsAscending, Fails, AreViolations}
 use Rattle.demand_checks.specs.Merged.{ListsMerge, all_rules, is_made, made_of, others_of, merged}
 use Rattle.demand_checks.proofs.Listed.{has_left, has_right, has_either}
 use Rattle.demand_checks.proofs.OneRule.{one_after}

@@ -1,6 +1,6 @@
 -- The sites of a numbered body are below the count of its acts.
-use Rattle.std.proofs.Common.{◌≡◌, ℕ, ◌+◌, ◌<◌, ◌≤◌, arith, List, []}
-use Rattle.core_term.specs.Term.{Term, One, Then, Both, Act, site, head}
+use Rattle.std.proofs.Common.{ℕ, ◌+◌, ◌<◌, arith, List, []}
+use Rattle.core_term.specs.Term.{Term, Act, site, head}
 use Rattle.core_term.specs.Numbering.{size, act_size, Numbered, NumberedAct}
 use Rattle.core_term.specs.Stands.{Stands, StandsIn, here, in_one, in_then, after_then, in_both, after_both, in_yes, in_no, in_when, in_block}
 use Rattle.core_term.proofs.turn_points.Idle.{head_site, size_positive}

@@ -1,5 +1,5 @@
 -- The violations of some rules, and after them those of one more.
-use Rattle.std.proofs.Common.{◌≡◌, ℕ, ◌<◌, ◌⊎◌, inl, inr, refl, sym, ◌∙◌, ap, subst, List, [], ◌∷◌, ◌++◌, map}
+use Rattle.std.proofs.Common.{◌≡◌, ℕ, ◌<◌, ◌⊎◌, inl, inr, refl, sym, ap, subst, List, [], ◌∷◌, ◌++◌, map}
 use Rattle.core_term.specs.declared.rules.Rule.{Rule}
 use Rattle.core_term.specs.declared.rules.Violation.{Violation}
 use Rattle.core_term.specs.Lists.{Has}
@@ -9,7 +9,7 @@ use Rattle.core_term.specs.Rules.{Claim, Holds, Demands}
 use Rattle.core_term.specs.Violations.{rule_number}
 use Rattle.demand_checks.specs.declared.place.Pair.{Pair}
 use Rattle.demand_checks.specs.Found.{ComesEarlier, IsAscending, Fails, AreFound, AreViolations, AllEarlier}
-use Rattle.demand_checks.specs.Pairs.{ComesFirst, AreAscending, AreSettled, violation}
+use Rattle.demand_checks.specs.Pairs.{AreAscending, AreSettled, violation}
 use Rattle.demand_checks.proofs.Listed.{has_left, has_right, has_either}
 
 listed : (rule : Rule) (pairs : List Pair) (one : Violation) → Has (map (violation rule) pairs) one → (pair : Pair) × Has pairs pair × (one ≡ violation rule pair)

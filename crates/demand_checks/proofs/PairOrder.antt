@@ -1,5 +1,5 @@
 -- The order of pairs that the code uses is that of the definitions, and what is sorted by it ascends.
-use Rattle.std.proofs.Common.{Ordering, Less, Equal, Greater, ap, nat_eq, ◌≡◌, ℕ, ◌<◌, ◌⊎◌, subst, inl, inr, refl, sym, true, arith, List, [], ◌∷◌, zero, suc}
+use Rattle.std.proofs.Common.{Ordering, Less, Equal, Greater, nat_eq, ◌≡◌, ℕ, ◌<◌, ◌⊎◌, subst, inl, inr, sym, true, arith, List, [], ◌∷◌, zero, suc}
 use Rattle.std.specs.Cmp.{ranks}
 use Rattle.std.proofs.lemmas.Bool.{and_parts, eqb-true}
 use Rattle.std.specs.Ordering.{MatchOrdering, nat_cmp, ordering_then}

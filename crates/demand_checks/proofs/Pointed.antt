@@ -1,21 +1,18 @@
 -- The places of a thread's acts are points of its text, and have their nodes in the graph; so what the tables say of two nodes is the
 -- answer to what is asked of two places.
-use Rattle.std.proofs.Common.{◌≡◌, ℕ, ◌+◌, ◌<◌, ◌≤◌, ◌⊎◌, inl, inr, arith, refl, sym, ◌∙◌, ap, subst, List, [], ◌∷◌, length, map, zero, suc, Bool, true, false, Option, Some, None, slice_get, if◌then◌else◌, IsSome}
+use Rattle.std.proofs.Common.{◌≡◌, ℕ, ◌<◌, ◌≤◌, inl, inr, arith, refl, sym, ◌∙◌, ap, subst, List, [], ◌∷◌, length, map, zero, suc, Bool, true, false, Some, None, slice_get, if◌then◌else◌, IsSome}
 use Rattle.std.specs.Prelude.{ℤ}
 use Rattle.std.proofs.lemmas.Bool.{cases_lt}
-use Rattle.order_rules.specs.Lag.{Admits, Tells}
+use Rattle.order_rules.specs.Lag.{Admits}
 use Rattle.order_rules.specs.Standing.{IsPoint}
 use Rattle.core_term.specs.declared.process.CoreProc.{CoreProc}
 use Rattle.core_term.specs.declared.term.CoreTerm.{CoreTerm}
-use Rattle.core_term.specs.Term.{Term, One, Then, Both, Act, site, head}
-use Rattle.core_term.specs.Numbering.{size, act_size, Numbered, NumberedAct}
-use Rattle.core_term.specs.Stands.{Stands, StandsIn, here, in_one, in_then, after_then, in_both, after_both, in_yes, in_no, in_when, in_block}
+use Rattle.core_term.specs.Term.{Term, site}
+use Rattle.core_term.specs.Numbering.{size, Numbered}
 use Rattle.core_term.specs.Acts.{HasAct, Sends, IsAt}
 use Rattle.core_term.specs.Points.{Begin, End}
-use Rattle.core_term.specs.Order.{Point, point, HasForm, Precedes, spot_site}
-use Rattle.core_term.specs.Process.{Process, Thread, life_of}
-use Rattle.core_term.specs.Lives.{LastPrecedes}
-use Rattle.core_term.specs.Graph.{IsGraphOf}
+use Rattle.core_term.specs.Order.{Point, point, HasForm, spot_site}
+use Rattle.core_term.specs.Process.{Thread, life_of}
 use Rattle.core_term.specs.Rules.{end_of}
 use Rattle.core_term.specs.Widths.{Widths}
 use Rattle.core_term.specs.View.{term_of}
@@ -26,14 +23,11 @@ use Rattle.core_term.proofs.graph_tables.OfText.{begin_real, end_real}
 use Rattle.core_term.proofs.graph_tables.Told.{order_told, last_told}
 use Rattle.event_graph.specs.Event.{Event}
 use Rattle.event_order.specs.declared.lag.Lag.{Lag}
-use Rattle.event_order.specs.declared.order.Order.{Order}
 use Rattle.event_order.specs.Lags.{lag_of}
 use Rattle.event_order.specs.Order.{IsLagOf, IsOrderOf}
 use Rattle.event_points.specs.Nodes.{twice, node_of}
 use Rattle.event_points.specs.Endings.{endings, graph_of}
 use Rattle.event_points.proofs.Endings.{graph_is}
-use Rattle.elaborator.specs.declared.elab.Elab.{Elab}
-use Rattle.elaborator.specs.Turns.{IsTwice}
 use Rattle.order_rules.specs.Last.{Ending}
 use Rattle.lifetimes.specs.declared.table.EndTable.{EndTable}
 use Rattle.lifetimes.specs.Lasts.{table_of}
@@ -42,11 +36,11 @@ use Rattle.lifetimes.specs.Ends.{IsEndLagOf}
 use Rattle.demand_checks.specs.declared.deed.Deed.TheVariants as deed
 use Rattle.demand_checks.specs.Deeds.{AreDeeds, deed_at}
 use Rattle.demand_checks.proofs.Numbers.{site_below}
-use Rattle.demand_checks.proofs.Deeds.{send_deed, deed_send}
+use Rattle.demand_checks.proofs.Deeds.{send_deed}
 use Rattle.demand_checks.specs.declared.place.Place.{Place}
 use Rattle.demand_checks.specs.declared.judge.Judge.{Judge}
-use Rattle.demand_checks.specs.Answers.{Answers, Decides, Tell}
-use Rattle.demand_checks.specs.Places.{spot_of, point_of}
+use Rattle.demand_checks.specs.Answers.{Answers, Decides}
+use Rattle.demand_checks.specs.Places.{point_of}
 use Rattle.demand_checks.specs.Thread.{nth_thread, body_of, IsReady}
 use Rattle.demand_checks.specs.Judge.{IsJudge, TellOf, body_at, process_at}
 

@@ -1,5 +1,5 @@
 -- What the code reads off a body is each variable of each expression of an act.
-use Rattle.std.proofs.Common.{◌≡◌, arith, ℕ, ◌⊎◌, inl, inr, refl, sym, ◌∙◌, ap, subst, List, [], ◌∷◌, ◌++◌, Option, Some, None, true, false}
+use Rattle.std.proofs.Common.{◌≡◌, ℕ, inl, inr, refl, sym, ◌∙◌, ap, subst, List, [], ◌∷◌, ◌++◌, Some, None}
 use Rattle.core_term.specs.declared.term.CoreTerm.{CoreTerm, One', Then', Both'}
 use Rattle.core_term.specs.declared.term.CoreExpr as expr
 use Rattle.core_term.specs.declared.term.CoreExpr.{CoreExpr}
@@ -13,7 +13,7 @@ use Rattle.core_term.specs.Stands.{Stands, StandsIn, here, in_one, in_then, afte
 use Rattle.core_term.specs.Widths.{Widths}
 use Rattle.core_term.specs.View.{term_of, act_of, expr_of, after_act}
 use Rattle.demand_checks.specs.declared.place.Pair.{Pair}
-use Rattle.demand_checks.specs.Reads.{AreReads, IsRead, pair, expr_reads, kind_reads, reads_of, reads_in}
+use Rattle.demand_checks.specs.Reads.{AreReads, pair, expr_reads, kind_reads, reads_of, reads_in}
 use Rattle.demand_checks.proofs.Listed.{has_left, has_right, has_either, both, end_nothing}
 
 abbrev in_expr : ℕ → Expr → List Pair

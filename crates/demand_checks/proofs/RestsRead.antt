@@ -1,19 +1,17 @@
 -- The atoms of the acts in turn are all uses of a body.
-use Rattle.std.proofs.Common.{◌≡◌, ℕ, ◌+◌, ◌<◌, ◌≤◌, ◌⊎◌, inl, inr, arith, refl, sym, ◌∙◌, ap, subst, List, [], ◌∷◌, ◌++◌, map}
+use Rattle.std.proofs.Common.{◌≡◌, ℕ, ◌+◌, ◌<◌, ◌≤◌, inl, inr, arith, refl, sym, ◌∙◌, ap, subst, List, [], ◌∷◌, ◌++◌, map}
 use Rattle.std.proofs.lemmas.Bool.{cases_lt}
 use Rattle.core_term.specs.declared.term.SourceAtom.{SourceAtom}
 use Rattle.core_term.specs.Lists.{Has}
-use Rattle.core_term.specs.Term.{Expr, Term, Act, Cycle, Set, Send, Recv, If, When, Block, Wait, Pure, Nothing, site, head}
+use Rattle.core_term.specs.Term.{Expr, Term, Act, Cycle, Set, Send, Recv, If, When, Block, Wait, Pure, Nothing, head}
 use Rattle.core_term.specs.Numbering.{size, Numbered}
 use Rattle.core_term.specs.Acts.{Uses, IsAt}
-use Rattle.core_term.specs.Stands.{Stands}
 use Rattle.core_term.specs.Sources.{Source, sources_in}
-use Rattle.core_term.specs.Atoms.{AreAtoms, AreAtomsAt, source_of, use_sources}
-use Rattle.core_term.specs.Rules.{RestsOn}
+use Rattle.core_term.specs.Atoms.{AreAtomsAt, source_of, use_sources}
 use Rattle.core_term.proofs.code_tables.Acting.{each_site}
 use Rattle.core_term.proofs.code_tables.AtomsKept.{rests_in_row, row_rests}
 use Rattle.demand_checks.specs.declared.rests.Rest.{Rest}
-use Rattle.demand_checks.specs.Rests.{AreRests, AreRestsTo, IsUse, HasUse, rest}
+use Rattle.demand_checks.specs.Rests.{AreRests, AreRestsTo, IsUse, rest}
 use Rattle.demand_checks.proofs.Numbers.{site_below}
 use Rattle.demand_checks.proofs.Listed.{has_left, has_right, has_either}
 

@@ -1,4 +1,5 @@
--- Answers to judgements over the points of a body, as tables give them: what they show of a claim, and that they tell the truth.
+-- Answers to judgements over the points of a body, as tables give them: what they show of a claim, and that they are
+-- right.
 use Rattle.std.specs.Prelude.{ℕ, ◌≡◌, ◌≤◌, ◌||◌, ◌&&◌, ℤ, Bool, true, false, List}
 use Rattle.std.specs.List.{list_all}
 use Rattle.order_rules.specs.Standing.{IsPoint}
@@ -10,7 +11,8 @@ use Rattle.core_term.specs.Order.{Point, HasForm, Precedes, spot_site}
 use Rattle.core_term.specs.Lives.{LastPrecedes}
 use Rattle.core_term.specs.Rules.{Claim, Order, Last, Either, Both}
 
--- order a d b: whether a + d <= b. last s d b: whether the last cycle of the life of what the send s sent, + d, is no later than b
+-- order a d b: whether a + d <= b. last s d b: whether the last cycle of the life of what the send s sent, + d, is no
+-- later than b
 pub record Answers : Type 0 where
   pub order : Point → ℤ → Point → Bool
   pub last : ℕ → ℤ → Point → Bool

@@ -20,7 +20,8 @@ deed_in a = Other
 -- of each act of a body, at its site
 pub record AreDeeds (body : Term) (deeds : List Deed) : Type 0 where
   pub count : length deeds ≡ size body
-  pub at : (scope : List Act) (u : Term) → Stands [] body scope u → slice_get deeds (site (head u)) ≡ Some (deed_in (head u))
+  pub at : (scope : List Act) (u : Term) → Stands [] body scope u
+      → slice_get deeds (site (head u)) ≡ Some (deed_in (head u))
 
 abbrev pub deed_or : Option Deed → Deed
 deed_or None = Other

@@ -16,7 +16,8 @@ abbrev pub AreOfThreads : Process → ℕ → List Thread → List (List Violati
 AreOfThreads p j [] [] = Unit {0}
 AreOfThreads p j [] (one ∷ lists) = ⊥
 AreOfThreads p j (thread ∷ threads) [] = ⊥
-AreOfThreads p j (thread ∷ threads) (one ∷ lists) = AreViolations p j thread.body all_rules one × AreOfThreads p (suc j) threads lists
+AreOfThreads p j (thread ∷ threads) (one ∷ lists) =
+    AreViolations p j thread.body all_rules one × AreOfThreads p (suc j) threads lists
 
 abbrev pub AreOfFile : List Process → List (List (List Violation)) → Type 0
 AreOfFile [] [] = Unit {0}
@@ -35,7 +36,9 @@ of_file i (one ∷ lists) = of_threads i 0 one ++ of_file (suc i) lists
 
 -- The violations of all threads, one list after the other, are those of the file.
 abbrev pub FileLists : Type 0
-FileLists = (file : List Process) (lists : List (List (List Violation))) → AreOfFile file lists → IsViolations file (of_file 0 lists)
+FileLists =
+    (file : List Process) (lists : List (List (List Violation))) → AreOfFile file lists
+    → IsViolations file (of_file 0 lists)
 
 -- all processes before one keep their demands, and so do the threads of that one before another
 abbrev pub KeepBefore : List Process → ℕ → Process → ℕ → Type 0
@@ -46,7 +49,8 @@ KeepBefore file i p j =
 -- Where all that stands before a thread is kept, the first violation of the thread is the first of the file.
 abbrev pub FirstOfFile : Type 0
 FirstOfFile =
-    (file : List Process) (i j : ℕ) (p : Process) (thread : Thread) → IsNth file i p → IsThread p.threads j thread → KeepBefore file i p j
+    (file : List Process) (i j : ℕ) (p : Process) (thread : Thread) → IsNth file i p → IsThread p.threads j thread
+    → KeepBefore file i p j
     → (first : Violation) (rest : List Violation) → AreViolations p j thread.body all_rules (first ∷ rest)
     → (violations : List Broken) → IsViolations file violations
     → (others : List Broken) × (violations ≡ broken i j first ∷ others)

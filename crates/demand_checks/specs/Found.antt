@@ -1,5 +1,5 @@
 -- The violations of one thread of a process, of some rules: the records of the demands that fail.
-use Rattle.std.specs.Prelude.{ℕ, ◌≡◌, ◌<◌, ◌⊎◌, List, [], ◌∷◌}
+use Rattle.std.specs.Prelude.{ℕ, ◌≡◌, ◌<◌, ◌⊎◌, List, [], ◌∷◌, ◌++◌}
 use Rattle.core_term.specs.declared.rules.Rule.{Rule}
 use Rattle.core_term.specs.declared.rules.Violation.{Violation}
 use Rattle.core_term.specs.Lists.{Has}
@@ -28,9 +28,11 @@ pub record Fails (p : Process) (j : ℕ) (body : Term) (rule : Rule) (first seco
   pub fails : Holds p body claim → ⊥
 
 -- each record is of a demand of these rules that fails, each demand of these rules holds or has its record
-pub record AreViolations (p : Process) (j : ℕ) (body : Term) (rules : List Rule) (violations : List Violation) : Type 0 where
+pub record AreViolations (p : Process) (j : ℕ) (body : Term) (rules : List Rule) (violations : List Violation)
+    : Type 0 where
   pub sound : (one : Violation) → Has violations one → Has rules one.rule × Fails p j body one.rule one.first one.second
-  pub whole : (rule : Rule) → Has rules rule → (first second : ℕ) (claim : Claim) → Demands p j body rule first second claim
+  pub whole : (rule : Rule) → Has rules rule → (first second : ℕ) (claim : Claim)
+      → Demands p j body rule first second claim
       → Holds p body claim ⊎ Has violations (record { rule = rule; first = first; second = second })
   pub ascending : IsAscending violations
 
@@ -43,3 +45,10 @@ pub record AreFound (p : Process) (j : ℕ) (body : Term) (rule : Rule) (pairs :
 -- the rules come before this one
 abbrev pub AllEarlier : List Rule → Rule → Type 0
 AllEarlier rules rule = (other : Rule) → Has rules other → rule_number other < rule_number rule
+
+-- adding the records of a rule to a list: where the old one is that of some rules, all before this one, the new one is
+-- that of these rules and this one
+abbrev pub AddsRule : Rule → List Pair → (old new : List Violation) → Type 0
+AddsRule rule pairs old new =
+    (p : Process) (j : ℕ) (body : Term) (rules : List Rule) → AreViolations p j body rules old
+    → AreFound p j body rule pairs → AllEarlier rules rule → AreViolations p j body (rules ++ rule ∷ []) new

@@ -1,5 +1,5 @@
 -- Pairs in order, each once, and as the violations of a rule.
-use Rattle.std.specs.Prelude.{ℕ, ◌≡◌, ◌<◌, ◌⊎◌, List, [], ◌∷◌}
+use Rattle.std.specs.Prelude.{◌≡◌, ◌<◌, ◌⊎◌, List, [], ◌∷◌}
 use Rattle.core_term.specs.declared.rules.Rule.{Rule}
 use Rattle.core_term.specs.declared.rules.Violation.{Violation}
 use Rattle.core_term.specs.Lists.{Has}

@@ -1,4 +1,5 @@
--- The variables that the acts of a body read: pairs of the site of the act that reads and the site of the act that makes the variable.
+-- The variables that the acts of a body read: pairs of the site of the act that reads and the site of the act that
+-- makes the variable.
 use Rattle.std.specs.Prelude.{ℕ, ◌≡◌, List, [], ◌∷◌, ◌++◌}
 use Rattle.core_term.specs.declared.term.CoreExpr as expr
 use Rattle.core_term.specs.declared.term.CoreExpr.{CoreExpr}
@@ -55,3 +56,7 @@ abbrev mutual
   pub reads_of_else : Held-CoreKind-If-2 → List Pair
   reads_of_else None' = []
   reads_of_else (Some' p t) = reads_of t
+
+-- of an act and the acts inside it
+abbrev pub act_reads : ℕ → CoreKind → List Pair
+act_reads p k = kind_reads p k ++ reads_in k

@@ -1,5 +1,5 @@
 -- The sites of a list that have a number: of the deeds of a body, those that set a register or are on a port.
-use Rattle.std.specs.Prelude.{ℕ, suc, ◌==◌, ◌&&◌, if◌then◌else◌, Bool, false, List, [], ◌∷◌, Option, Some, None, map, slice_get}
+use Rattle.std.specs.Prelude.{ℕ, suc, ◌==◌, if◌then◌else◌, Bool, false, List, [], ◌∷◌, Option, Some, None, map, slice_get}
 use Rattle.demand_checks.specs.declared.deed.Deed.{Deed}
 use Rattle.demand_checks.specs.declared.deed.Deed.TheVariants.{Sets, Sends, Receives, Other}
 use Rattle.demand_checks.specs.declared.sites.Sites.{Sites}

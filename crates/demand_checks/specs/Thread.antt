@@ -1,7 +1,9 @@
--- The body of a thread of a process, and what the checks are given of it: the graph of its two turns, the order of the graph and a
--- table for the life of what each send sends.
+-- The body of a thread of a process, and what the checks are given of it: the graph of its two turns, the order of the
+-- graph and a table for the life of what each send sends.
 use Rattle.std.specs.Prelude.{ℕ, ◌≡◌, ◌<◌, List, [], ◌∷◌, length, zero, suc}
 use Rattle.core_term.specs.declared.process.CoreProc.{CoreProc}
+use Rattle.core_term.specs.declared.rules.Rule.{Rule}
+use Rattle.core_term.specs.declared.rules.Violation.{Violation}
 use Rattle.core_term.specs.Term.{Term, One, Nothing}
 use Rattle.core_term.specs.Acts.{Sends, HasAct, SetAt}
 use Rattle.core_term.specs.Process.{Process, Thread, IsThread, life_of}
@@ -15,6 +17,7 @@ use Rattle.elaborator.specs.declared.elab.Elab.{Elab}
 use Rattle.elaborator.specs.Turns.{IsTwice}
 use Rattle.lifetimes.specs.declared.lasts.Lasts.{Lasts}
 use Rattle.lifetimes.specs.Lasts.{HasTableOf}
+use Rattle.demand_checks.specs.Found.{AreViolations}
 
 abbrev pub no_thread : Thread
 no_thread = record { body = One (Nothing 0); count = 1 }
@@ -43,4 +46,9 @@ pub record IsReady (proc : CoreProc) (j : ℕ) (elab : Elab) (order : Order) (la
 
 -- a thread of another number than j sets the register
 abbrev pub IsSetElsewhere : Process → ℕ → ℕ → Type 0
-IsSetElsewhere p j register = (i w : ℕ) × (other : Thread) × IsThread p.threads i other × (i ≡ j → ⊥) × SetAt other.body w register
+IsSetElsewhere p j register =
+    (i w : ℕ) × (other : Thread) × IsThread p.threads i other × (i ≡ j → ⊥) × SetAt other.body w register
+
+-- the violations of the thread of the number j of a process of the code
+abbrev pub AreViolationsOf : CoreProc → ℕ → List Rule → List Violation → Type 0
+AreViolationsOf proc j rules violations = AreViolations (process_in proc) j (body_of proc j) rules violations

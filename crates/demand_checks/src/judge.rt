@@ -1,17 +1,18 @@
 //! A thread as the checks ask about it.
 ghost use Rattle.std.specs.Prelude.{◌≡◌, ◌<◌, ◌≤◌, length, IfOk, Some, None, if◌then◌else◌};
+ghost use Rattle.core_term.specs.Rules.{Order as OrderClaim};
 ghost use Rattle.core_term.specs.Widths.{Widths};
 ghost use Rattle.core_term.specs.View.{term_of};
 ghost use Rattle.event_order.specs.Lags.{lag_of};
-ghost use Rattle.event_points.specs.Nodes.{node_of, turn_number};
+ghost use Rattle.event_points.specs.Nodes.{turn_number};
 ghost use Rattle.order_rules.specs.Lag.{Admits};
-ghost use Rattle.demand_checks.specs.Answers.{Answers, Decides, shows};
+ghost use Rattle.demand_checks.specs.Answers.{Decides};
 ghost use Rattle.demand_checks.specs.Deeds.{deed_at, used};
 ghost use Rattle.demand_checks.specs.Places.{point_of};
 ghost use Rattle.demand_checks.specs.Reads.{AreReads};
 ghost use Rattle.demand_checks.specs.Rests.{AreRests};
 ghost use Rattle.demand_checks.specs.Thread.{IsReady};
-ghost use Rattle.demand_checks.specs.Judge.{IsJudge, TellOf, body_at};
+ghost use Rattle.demand_checks.specs.Judge.{IsAnswer, IsJudge, IsShown, body_at, node_at};
 
 use crate::{Deed, Pair, Place, Rest, deeds_of, reads_of, rests_of};
 use core_term::{CoreProc, CoreThread};
@@ -113,7 +114,7 @@ impl<'a> Judge<'a> {
     /// The node of a place, or None where the thread has no act of its site.
     fn node(&self, place: Place) -> Option<EvId>
         requires { IsJudge self.now }
-        ensures inside { place.site < length self.now.deeds.items → result ≡ Some (node_of (body_at self.now) (point_of place)) }
+        ensures inside { place.site < length self.now.deeds.items → result ≡ Some (node_at self.now place) }
         ensures outside { length self.now.deeds.items ≤ place.site → result ≡ None }
     {
         if place.site as usize >= self.deeds.len() {
@@ -126,7 +127,7 @@ impl<'a> Judge<'a> {
     /// Whether `a + d <= b`. False where the thread has no act of a site.
     pub fn precedes(&self, a: Place, d: i32, b: Place) -> bool
         requires { IsJudge self.now }
-        ensures { (answers : Answers) → TellOf self.now answers → result ≡ answers.order (point_of a) d (point_of b) }
+        ensures { IsShown self.now (OrderClaim (point_of a) d (point_of b)) result }
     {
         match (self.node(a), self.node(b)) {
             (Some(from), Some(to)) => admits(self.order.lag(from, to), d),
@@ -138,7 +139,7 @@ impl<'a> Judge<'a> {
     /// such act.
     pub fn last_precedes(&self, send: u32, d: i32, b: Place) -> bool
         requires { IsJudge self.now }
-        ensures { (answers : Answers) → TellOf self.now answers → result ≡ answers.last send d (point_of b) }
+        ensures { IsAnswer self.now (λ answers. answers.last send d (point_of b)) result }
     {
         match (self.deed(send), self.node(b)) {
             (Deed::Sends(_), Some(to)) => admits(self.lasts.of(send).end_lag(to), d),
@@ -149,7 +150,7 @@ impl<'a> Judge<'a> {
     /// Whether an act uses its value, and d cycles, no later than b: a `send` uses it up to the end of the life.
     pub fn used_by(&self, user: u32, d: i32, b: Place) -> bool
         requires { IsJudge self.now }
-        ensures { (answers : Answers) → TellOf self.now answers → result ≡ shows answers (used self.now.deeds.items user d (point_of b)) }
+        ensures { IsShown self.now (used self.now.deeds.items user d (point_of b)) result }
     {
         match self.deed(user) {
             Deed::Sends(_) => self.last_precedes(user, d, b),

@@ -1,11 +1,8 @@
 //! The records of one rule after the other, as the violations of a thread.
-ghost use Rattle.std.specs.Prelude.{◌≡◌, ◌∷◌, [], ◌++◌, ℕ, List, map, true, IfOk};
+ghost use Rattle.std.specs.Prelude.{◌≡◌, ◌++◌, map, true, IfOk};
 ghost use Rattle.std.specs.List.{Any, Contains};
 ghost use Rattle.std.specs.List.Sorted.{IsStrictlySortedBy};
-ghost use Rattle.core_term.specs.declared.rules.Rule.{Rule as RuleSeen};
-ghost use Rattle.core_term.specs.Process.{Process};
-ghost use Rattle.core_term.specs.Term.{Term};
-ghost use Rattle.demand_checks.specs.Found.{AllEarlier, AreFound, AreViolations};
+ghost use Rattle.demand_checks.specs.Found.{AddsRule};
 ghost use Rattle.demand_checks.specs.Pairs.{AreSettled, violation};
 
 use crate::Pair;
@@ -21,7 +18,7 @@ pub fn list_rule(
     pairs: &mut Vec<Pair>,
     violations: &mut Vec<Violation>,
 ) -> Result<(), AllocError>
-    ensures { (p : Process) (j : ℕ) (body : Term) (rules : List RuleSeen) → AreViolations p j body rules violations.old.items → AreFound p j body rule pairs.old.items → AllEarlier rules rule → IfOk result (λ _. AreViolations p j body (rules ++ rule ∷ []) violations.new.items) }
+    ensures { IfOk result (λ _. AddsRule rule pairs.old.items violations.old.items violations.new.items) }
 {
     settle(pairs);
     add_all(rule, pairs, violations)?;

@@ -2,7 +2,7 @@
 ghost use Rattle.std.specs.Prelude.{◌≡◌, ◌++◌, ◌∷◌, IfOk};
 ghost use Rattle.core_term.specs.Widths.{Widths};
 ghost use Rattle.core_term.specs.View.{term_of};
-ghost use Rattle.demand_checks.specs.Reads.{AreReads, kind_reads, reads_in, reads_of, expr_reads};
+ghost use Rattle.demand_checks.specs.Reads.{AreReads, act_reads, kind_reads, reads_of, expr_reads};
 
 use crate::Pair;
 use core_term::{CoreAct, CoreExpr, CoreKind, CoreTerm, CoreThread};
@@ -35,7 +35,7 @@ fn add_reads(term: &CoreTerm, reads: &mut Vec<Pair>) -> Result<(), AllocError>
 
 #[cycle(reads)]
 fn add_act_reads(act: &CoreAct, reads: &mut Vec<Pair>) -> Result<(), AllocError>
-    ensures { IfOk result (λ _. reads.new.items ≡ reads.old.items ++ (kind_reads act.now.site act.now.kind ++ reads_in act.now.kind)) }
+    ensures { IfOk result (λ _. reads.new.items ≡ reads.old.items ++ act_reads act.now.site act.now.kind) }
 {
     add_own_reads(act.site, &act.kind, reads)?;
     match &act.kind {

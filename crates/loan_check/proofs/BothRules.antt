@@ -1,5 +1,5 @@
 -- The violations of V7 and V8 of a thread, from the records of both.
-use Rattle.std.proofs.Common.{◌≡◌, ℕ, ◌<◌, inl, inr, arith, refl, sym, ◌∙◌, ap, subst, List, [], ◌∷◌, ◌++◌}
+use Rattle.std.proofs.Common.{◌≡◌, ℕ, ◌<◌, inl, inr, arith, sym, subst, List, [], ◌∷◌, ◌++◌}
 use Rattle.core_term.specs.declared.process.CoreProc.{CoreProc}
 use Rattle.core_term.specs.declared.rules.Rule.{Rule}
 use Rattle.core_term.specs.declared.rules.Rule.TheVariants as rule

@@ -1,11 +1,11 @@
 -- The uses of sides that are not shown to be over are the records of V8.
-use Rattle.std.proofs.Common.{◌≡◌, ℕ, inl, inr, refl, sym, ◌∙◌, ap, subst, List, [], ◌∷◌}
+use Rattle.std.proofs.Common.{◌≡◌, ℕ, inl, inr, refl, sym, ◌∙◌, ap, subst, List, []}
 use Rattle.std.specs.Prelude.{pos}
 use Rattle.core_term.specs.declared.rules.Rule.TheVariants as rule
 use Rattle.core_term.specs.declared.term.SourceAtom.{SourceAtom}
 use Rattle.core_term.specs.declared.term.SourceAtom.TheVariants.{Wire, Reg, Choice}
 use Rattle.core_term.specs.Lists.{Has}
-use Rattle.core_term.specs.Term.{Term, site, head}
+use Rattle.core_term.specs.Term.{Term, head}
 use Rattle.core_term.specs.Numbering.{Numbered}
 use Rattle.core_term.specs.Process.{Process}
 use Rattle.core_term.specs.Sources.{ChoiceOf}
@@ -16,7 +16,7 @@ use Rattle.demand_checks.specs.declared.rests.Rest.{Rest}
 use Rattle.demand_checks.specs.Answers.{Answers, Tell}
 use Rattle.demand_checks.specs.Deeds.{AreDeeds, used}
 use Rattle.demand_checks.specs.Found.{AreFound}
-use Rattle.demand_checks.specs.Rests.{AreRests, IsUse, HasUse, pair_of}
+use Rattle.demand_checks.specs.Rests.{AreRests, IsUse, pair_of}
 use Rattle.demand_checks.specs.Unshown.{unshown}
 use Rattle.demand_checks.proofs.Filtered.{found}
 use Rattle.demand_checks.proofs.Inverted.{used_is, choice_demand}

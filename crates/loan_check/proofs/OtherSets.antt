@@ -4,7 +4,6 @@ use Rattle.std.proofs.lemmas.Bool.{cases_lt, eqb-true}
 use Rattle.core_term.specs.declared.process.CoreProc.{CoreProc}
 use Rattle.core_term.specs.declared.term.CoreTerm.{CoreTerm}
 use Rattle.core_term.specs.Lists.{Has}
-use Rattle.core_term.specs.Term.{Term}
 use Rattle.core_term.specs.Numbering.{Numbered}
 use Rattle.core_term.specs.Acts.{SetAt}
 use Rattle.core_term.specs.Process.{Thread, IsThread}
@@ -16,7 +15,7 @@ use Rattle.demand_checks.specs.declared.deed.Deed.TheVariants.{Sets, Sends, Rece
 use Rattle.demand_checks.specs.Deeds.{AreDeeds, deed_at, deed_or}
 use Rattle.demand_checks.specs.Thread.{IsSetElsewhere}
 use Rattle.demand_checks.proofs.Deeds.{set_deed, deed_set}
-use Rattle.demand_checks.proofs.Listed.{has_left, has_right, has_either, place_in, has_at}
+use Rattle.demand_checks.proofs.Listed.{has_left, has_right, has_either, place_in}
 use Rattle.demand_checks.proofs.Pointed.{widths_in}
 use Rattle.loan_check.specs.Elsewhere.{AreElsewhere, AreElsewhereTo, is_among, with_register, with_set, with_sets}
 

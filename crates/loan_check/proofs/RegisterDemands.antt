@@ -1,5 +1,5 @@
 -- The uses of registers that are not shown to be over before the register is set are the records of V7.
-use Rattle.std.proofs.Common.{◌≡◌, ℕ, ◌⊎◌, inl, inr, refl, sym, ◌∙◌, ap, subst, List, [], ◌∷◌, ◌++◌, map, Bool, true, false, ◌||◌, ◌&&◌}
+use Rattle.std.proofs.Common.{◌≡◌, ℕ, inl, inr, refl, sym, ◌∙◌, ap, subst, List, [], ◌∷◌, map, Bool, true, false, ◌||◌, ◌&&◌}
 use Rattle.std.specs.Prelude.{pos, ℤ}
 use Rattle.core_term.specs.declared.process.CoreProc.{CoreProc}
 use Rattle.core_term.specs.declared.rules.Rule.TheVariants as rule
@@ -12,18 +12,18 @@ use Rattle.core_term.specs.Numbering.{Numbered}
 use Rattle.core_term.specs.Order.{Point}
 use Rattle.core_term.specs.Sources.{RegOf}
 use Rattle.core_term.specs.Atoms.{source_of, site_of}
-use Rattle.core_term.specs.Rules.{Claim, Order, Either, Both, Demands, use_by, begin_of, end_of, next_begin_of, set_elsewhere, set_here}
+use Rattle.core_term.specs.Rules.{Claim, Either, Both, Demands, use_by, begin_of, end_of, next_begin_of, set_elsewhere, set_here}
 use Rattle.demand_checks.specs.declared.deed.Deed.{Deed}
 use Rattle.demand_checks.specs.declared.rests.Rest.{Rest}
 use Rattle.demand_checks.specs.Answers.{Answers, Tell, all_shown, shows}
 use Rattle.demand_checks.specs.Deeds.{AreDeeds, used}
 use Rattle.demand_checks.specs.Found.{AreFound}
-use Rattle.demand_checks.specs.Rests.{AreRests, IsUse, HasUse, pair_of}
+use Rattle.demand_checks.specs.Rests.{AreRests, IsUse, pair_of}
 use Rattle.demand_checks.specs.Sites.{sites_setting}
 use Rattle.demand_checks.specs.Unshown.{unshown}
 use Rattle.demand_checks.proofs.Deeds.{set_deed, deed_set}
 use Rattle.demand_checks.proofs.Filtered.{found}
-use Rattle.demand_checks.proofs.Inverted.{used_is, read_demand, set_claim, ElsewhereDemand, HereDemand}
+use Rattle.demand_checks.proofs.Inverted.{used_is, read_demand, set_claim}
 use Rattle.demand_checks.proofs.Listed.{has_left, has_right, has_either, mapped, in_map}
 use Rattle.demand_checks.proofs.SitesHave.{has_setting, setting_has}
 use Rattle.loan_check.specs.Elsewhere.{AreElsewhere, is_among}

@@ -1,5 +1,5 @@
 -- The registers that other threads of a process set.
-use Rattle.std.specs.Prelude.{ℕ, ◌<◌, ◌==◌, ◌||◌, if◌then◌else◌, Bool, false, List, [], ◌∷◌, ◌++◌}
+use Rattle.std.specs.Prelude.{ℕ, ◌+◌, ◌<◌, ◌==◌, ◌||◌, if◌then◌else◌, Bool, false, List, [], ◌∷◌, ◌++◌}
 use Rattle.core_term.specs.declared.process.CoreProc.{CoreProc}
 use Rattle.core_term.specs.Lists.{Has}
 use Rattle.core_term.specs.AcceptedFile.{process_in}
@@ -16,6 +16,10 @@ pub record AreElsewhereTo (high : ℕ) (proc : CoreProc) (j : ℕ) (registers : 
 pub record AreElsewhere (proc : CoreProc) (j : ℕ) (registers : List ℕ) : Type 0 where
   pub sound : (register : ℕ) → Has registers register → IsSetElsewhere (process_in proc) j register
   pub whole : (register : ℕ) → IsSetElsewhere (process_in proc) j register → Has registers register
+
+-- with the thread of a number, those of one more
+abbrev pub AddsThread : ℕ → CoreProc → ℕ → (old new : List ℕ) → Type 0
+AddsThread i proc j old new = AreElsewhereTo i proc j old → AreElsewhereTo (i + 1) proc j new
 
 abbrev pub is_among : ℕ → List ℕ → Bool
 is_among register [] = false

@@ -1,10 +1,7 @@
 //! Rule V8: the side of an `if` is used before the `if` decides again.
-ghost use Rattle.std.specs.Prelude.{◌≡◌, IfOk};
-ghost use Rattle.demand_checks.specs.Answers.{Answers, all_shown};
-ghost use Rattle.demand_checks.specs.Judge.{IsJudge, TellOf};
-ghost use Rattle.demand_checks.specs.Rests.{pair_of};
-ghost use Rattle.demand_checks.specs.Unshown.{unshown};
-ghost use Rattle.loan_check.specs.Choices.{choice_claims};
+ghost use Rattle.std.specs.Prelude.{IfOk};
+ghost use Rattle.demand_checks.specs.Judge.{AreShown, IsJudge};
+ghost use Rattle.loan_check.specs.Choices.{AreUnshownChoices, choice_claims};
 
 use demand_checks::{Judge, Pair, Place, Rest, SourceAtom};
 use std::alloc::{AllocError, Global};
@@ -18,7 +15,7 @@ pub fn unshown_choices(
     rests: &[Rest],
 ) -> Result<Vec<Pair>, AllocError>
     requires { IsJudge judge.now }
-    ensures { IfOk result (λ pairs. (answers : Answers) → TellOf judge.now answers → pairs.items ≡ unshown pair_of (choice_claims judge.now.deeds.items) answers rests.now) }
+    ensures { IfOk result (λ pairs. AreUnshownChoices judge.now rests.now pairs.items) }
 {
     let mut pairs = Vec::new(alloc);
     for rest in rests {
@@ -32,7 +29,7 @@ pub fn unshown_choices(
 /// Whether a use that rests on the side of an `if` is over before the `if` decides again. True of every other use.
 fn choice_holds(judge: &Judge<'_>, rest: Rest) -> bool
     requires { IsJudge judge.now }
-    ensures { (answers : Answers) → TellOf judge.now answers → result ≡ all_shown answers (choice_claims judge.now.deeds.items rest) }
+    ensures { AreShown judge.now (choice_claims judge.now.deeds.items rest) result }
 {
     match rest.atom {
         SourceAtom::Choice { site } => judge.used_by(rest.user, 1, Place::next_begin_of(site)),

@@ -1,6 +1,6 @@
 //! The registers that other threads of a process set.
-ghost use Rattle.std.specs.Prelude.{◌≡◌, ◌<◌, ◌+◌, ℕ, length, IfOk};
-ghost use Rattle.loan_check.specs.Elsewhere.{AreElsewhere, AreElsewhereTo, is_among, with_set, with_sets};
+ghost use Rattle.std.specs.Prelude.{◌≡◌, ◌<◌, length, IfOk};
+ghost use Rattle.loan_check.specs.Elsewhere.{AddsThread, AreElsewhere, is_among, with_set, with_sets};
 
 use demand_checks::{CoreProc, Deed, deeds_of};
 use std::alloc::{AllocError, Global};
@@ -27,7 +27,7 @@ fn add_other(
     registers: &mut Vec<u32>,
 ) -> Result<(), AllocError>
     requires { index < length proc.now.threads.items }
-    ensures { AreElsewhereTo index proc.now thread registers.old.items → IfOk result (λ _. AreElsewhereTo (index + 1) proc.now thread registers.new.items) }
+    ensures { IfOk result (λ _. AddsThread index proc.now thread registers.old.items registers.new.items) }
 {
     if index == thread as usize {
         return Ok(());

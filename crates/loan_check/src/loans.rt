@@ -1,9 +1,7 @@
 //! The violations of V7 and V8.
 ghost use Rattle.std.specs.Prelude.{◌∷◌, [], IfOk};
-ghost use Rattle.core_term.specs.AcceptedFile.{process_in};
 ghost use Rattle.core_term.specs.declared.rules.Rule.TheVariants as rule;
-ghost use Rattle.demand_checks.specs.Found.{AreViolations};
-ghost use Rattle.demand_checks.specs.Thread.{IsReady, body_of};
+ghost use Rattle.demand_checks.specs.Thread.{AreViolationsOf, IsReady};
 
 use crate::choices::unshown_choices;
 use crate::elsewhere::set_elsewhere;
@@ -23,7 +21,7 @@ pub fn loan_violations(
     lasts: &Lasts,
 ) -> Result<Vec<Violation>, AllocError>
     requires { IsReady proc.now thread elab.now order.now lasts.now }
-    ensures { IfOk result (λ violations. AreViolations (process_in proc.now) thread (body_of proc.now thread) (rule.V7 ∷ rule.V8 ∷ []) violations.items) }
+    ensures { IfOk result (λ found. AreViolationsOf proc.now thread (rule.V7 ∷ rule.V8 ∷ []) found.items) }
 {
     let judge = Judge::new(alloc, proc, thread, elab, order, lasts)?;
     let rests = judge.rests(alloc)?;

@@ -1,11 +1,7 @@
 //! Rule V7: a register is not set between a read of it and the end of a use of what was read.
-ghost use Rattle.std.specs.Prelude.{◌≡◌, map, IfOk};
-ghost use Rattle.demand_checks.specs.Answers.{Answers, all_shown, shows};
-ghost use Rattle.demand_checks.specs.Judge.{IsJudge, TellOf};
-ghost use Rattle.demand_checks.specs.Rests.{pair_of};
-ghost use Rattle.demand_checks.specs.Sites.{row_of, sites_setting};
-ghost use Rattle.demand_checks.specs.Unshown.{unshown};
-ghost use Rattle.loan_check.specs.Registers.{here_claim, read_claims, register_claims, AreSets};
+ghost use Rattle.std.specs.Prelude.{map, IfOk};
+ghost use Rattle.demand_checks.specs.Judge.{AreShown, IsJudge, IsShown};
+ghost use Rattle.loan_check.specs.Registers.{AreSets, AreUnshownReads, here_claim, read_claims, register_claims};
 
 use crate::elsewhere::is_among;
 use demand_checks::{Judge, Pair, Place, Rest, Sites, SourceAtom};
@@ -23,7 +19,7 @@ pub fn unshown_reads(
 ) -> Result<Vec<Pair>, AllocError>
     requires judge { IsJudge judge.now }
     requires sets { AreSets judge.now.deeds.items sets.now }
-    ensures { IfOk result (λ pairs. (answers : Answers) → TellOf judge.now answers → pairs.items ≡ unshown pair_of (register_claims others.now judge.now.deeds.items) answers rests.now) }
+    ensures { IfOk result (λ pairs. AreUnshownReads judge.now others.now rests.now pairs.items) }
 {
     let mut pairs = Vec::new(alloc);
     for rest in rests {
@@ -38,7 +34,7 @@ pub fn unshown_reads(
 fn register_holds(judge: &Judge<'_>, sets: &Sites, others: &[u32], rest: Rest) -> bool
     requires judge { IsJudge judge.now }
     requires sets { AreSets judge.now.deeds.items sets.now }
-    ensures { (answers : Answers) → TellOf judge.now answers → result ≡ all_shown answers (register_claims others.now judge.now.deeds.items rest) }
+    ensures { AreShown judge.now (register_claims others.now judge.now.deeds.items rest) result }
 {
     match rest.atom {
         SourceAtom::Reg { site, reg } => {
@@ -52,7 +48,7 @@ fn register_holds(judge: &Judge<'_>, sets: &Sites, others: &[u32], rest: Rest) -
 /// A use that is over as it reads is.
 fn read_holds(judge: &Judge<'_>, sets: &[u32], elsewhere: bool, user: u32, site: u32) -> bool
     requires { IsJudge judge.now }
-    ensures { (answers : Answers) → TellOf judge.now answers → result ≡ all_shown answers (read_claims elsewhere judge.now.deeds.items user site sets.now) }
+    ensures { AreShown judge.now (read_claims elsewhere judge.now.deeds.items user site sets.now) result }
 {
     if judge.used_by(user, 0, Place::begin_of(site)) {
         return true;
@@ -63,7 +59,7 @@ fn read_holds(judge: &Judge<'_>, sets: &[u32], elsewhere: bool, user: u32, site:
 /// Whether a use of what the act of a site reads is over before each of these sites sets the register.
 fn sets_hold(judge: &Judge<'_>, sets: &[u32], user: u32, site: u32) -> bool
     requires { IsJudge judge.now }
-    ensures { (answers : Answers) → TellOf judge.now answers → result ≡ all_shown answers (map (here_claim judge.now.deeds.items user site) sets.now) }
+    ensures { AreShown judge.now (map (here_claim judge.now.deeds.items user site) sets.now) result }
 {
     for set in sets {
         if !set_holds(judge, *set, user, site) {
@@ -76,7 +72,7 @@ fn sets_hold(judge: &Judge<'_>, sets: &[u32], user: u32, site: u32) -> bool
 /// Whether a use is over as it reads, or else before a `set` that begins after the read, in this turn and in the next.
 fn set_holds(judge: &Judge<'_>, set: u32, user: u32, site: u32) -> bool
     requires { IsJudge judge.now }
-    ensures { (answers : Answers) → TellOf judge.now answers → result ≡ shows answers (here_claim judge.now.deeds.items user site set) }
+    ensures { IsShown judge.now (here_claim judge.now.deeds.items user site set) result }
 {
     let read = Place::begin_of(site);
     judge.used_by(user, 0, read)

@@ -1,5 +1,5 @@
 -- Steps over the ends of a life, over plain variables.
-use Rattle.std.proofs.Common.{◌≡◌, ℕ, ◌+◌, ◌≤◌, arith, refl, sym, ◌∙◌, ap, List, [], ◌∷◌, ◌++◌, length, map, drop, zero, suc, Bool, true, false, ◌&&◌, Some, slice_get}
+use Rattle.std.proofs.Common.{◌≡◌, ℕ, ◌≤◌, arith, refl, sym, ◌∙◌, ap, List, [], ◌∷◌, ◌++◌, length, map, drop, zero, suc, Bool, true, false, ◌&&◌, Some, slice_get}
 use Rattle.core_term.specs.Process.{LifeEnd, Port, nth_port}
 use Rattle.core_term.specs.Rules.{Claim}
 use Rattle.demand_checks.specs.declared.deed.Deed.{Deed}

@@ -1,9 +1,9 @@
 -- The reads that are not shown to come after are the records of V2.
-use Rattle.std.proofs.Common.{◌≡◌, ℕ, inl, inr, refl, sym, ◌∙◌, ap, subst, List, [], ◌∷◌}
+use Rattle.std.proofs.Common.{◌≡◌, ℕ, inl, inr, refl, sym, subst, List, []}
 use Rattle.std.specs.Prelude.{pos}
 use Rattle.core_term.specs.declared.rules.Rule.TheVariants as rule
 use Rattle.core_term.specs.Lists.{Has}
-use Rattle.core_term.specs.Term.{Term, site, head}
+use Rattle.core_term.specs.Term.{Term}
 use Rattle.core_term.specs.Numbering.{Numbered}
 use Rattle.core_term.specs.Process.{Process}
 use Rattle.core_term.specs.Rules.{Claim, Order, Demands, begin_of, end_of, made}

@@ -1,25 +1,25 @@
 -- The uses of received data that are not shown to be over within the life are the records of V6.
-use Rattle.std.proofs.Common.{◌≡◌, ℕ, ◌⊎◌, inl, inr, refl, sym, ◌∙◌, ap, subst, List, [], ◌∷◌, ◌++◌, map}
+use Rattle.std.proofs.Common.{◌≡◌, ℕ, inl, inr, refl, sym, ◌∙◌, ap, subst, List, [], ◌∷◌, map}
 use Rattle.std.specs.Prelude.{pos, ◌-ℤ◌, ℤ}
 use Rattle.core_term.specs.declared.rules.Rule.TheVariants as rule
 use Rattle.core_term.specs.declared.term.SourceAtom.{SourceAtom}
 use Rattle.core_term.specs.declared.term.SourceAtom.TheVariants.{Wire, Reg, Choice}
 use Rattle.core_term.specs.Acts.{Receives, Sends, OnPort, HasAct, ActOn}
 use Rattle.core_term.specs.Lists.{Has}
-use Rattle.core_term.specs.Term.{Term, Act, Cycle, Set, Send, Recv, If, When, Block, Wait, Pure, Nothing, site, head}
+use Rattle.core_term.specs.Term.{Term, Act, Cycle, Set, Send, Recv, If, When, Block, Wait, Pure, Nothing, head}
 use Rattle.core_term.specs.Numbering.{Numbered}
 use Rattle.core_term.specs.Order.{Point}
 use Rattle.core_term.specs.Process.{LifeEnd, Cycles, Until, Process, life_of}
 use Rattle.core_term.specs.Sources.{WireOf}
 use Rattle.core_term.specs.Atoms.{source_of, site_of}
-use Rattle.core_term.specs.Rules.{Claim, Order, Either, Both, Demands, use_by, end_of, next_end_of, wire_within, wire_until}
+use Rattle.core_term.specs.Rules.{Claim, Either, Both, Demands, use_by, end_of, next_end_of, wire_within, wire_until}
 use Rattle.demand_checks.specs.declared.deed.Deed.{Deed}
 use Rattle.demand_checks.specs.declared.deed.Deed.TheVariants as deed
 use Rattle.demand_checks.specs.declared.rests.Rest.{Rest}
 use Rattle.demand_checks.specs.Answers.{Answers, Tell}
 use Rattle.demand_checks.specs.Deeds.{AreDeeds, deed_at, deed_in, used}
 use Rattle.demand_checks.specs.Found.{AreFound}
-use Rattle.demand_checks.specs.Rests.{AreRests, IsUse, HasUse, pair_of}
+use Rattle.demand_checks.specs.Rests.{AreRests, IsUse, pair_of}
 use Rattle.demand_checks.specs.Sites.{sites_on}
 use Rattle.demand_checks.specs.Unshown.{unshown}
 use Rattle.demand_checks.proofs.Deeds.{deed_stands, deed_send, deed_receive, receive_deed}

@@ -1,4 +1,5 @@
--- The claims of rule V6 for a use and an atom: of received data, that it is used within each end of the life of the exchange.
+-- The claims of rule V6 for a use and an atom: of received data, that it is used within each end of the life of the
+-- exchange.
 use Rattle.std.specs.Prelude.{ℕ, ◌≡◌, pos, ◌-ℤ◌, List, [], ◌∷◌, ◌++◌, map}
 use Rattle.core_term.specs.declared.term.SourceAtom.{SourceAtom}
 use Rattle.core_term.specs.declared.term.SourceAtom.TheVariants.{Wire, Reg, Choice}
@@ -6,8 +7,12 @@ use Rattle.core_term.specs.Process.{LifeEnd, Cycles, Until, Process, life_of}
 use Rattle.core_term.specs.Rules.{Claim, Order, Either, Both, end_of, next_end_of}
 use Rattle.demand_checks.specs.declared.deed.Deed.{Deed}
 use Rattle.demand_checks.specs.declared.deed.Deed.TheVariants.{Sets, Sends, Receives, Other}
+use Rattle.demand_checks.specs.declared.judge.Judge.{Judge}
+use Rattle.demand_checks.specs.declared.place.Pair.{Pair}
 use Rattle.demand_checks.specs.declared.rests.Rest.{Rest}
 use Rattle.demand_checks.specs.Deeds.{deed_at, used}
+use Rattle.demand_checks.specs.Judge.{AreUnshown, process_at}
+use Rattle.demand_checks.specs.Rests.{pair_of}
 use Rattle.demand_checks.specs.Sites.{sites_on, row_of}
 
 -- of a use of what the act of a site received, and an act on a port that ends the life
@@ -44,3 +49,12 @@ wire_claims p deeds rest = wire_claims_of p deeds rest.user rest.atom
 -- the rows are those of the sites on each port
 abbrev pub AreOnPorts : List Deed → List (List ℕ) → Type 0
 AreOnPorts deeds rows = (port : ℕ) → row_of rows port ≡ sites_on deeds port
+
+-- the pairs are the records of the uses of received data that are not shown to be over in time
+abbrev pub AreUnshownWires : Judge → List Rest → List Pair → Type 0
+AreUnshownWires judge rests pairs =
+    AreUnshown judge pair_of (wire_claims (process_at judge) judge.deeds.items) rests pairs
+
+-- of the life of a port of the process
+abbrev pub port_claims : Judge → (port user site : ℕ) → List Claim
+port_claims judge port user site = ends_claims judge.deeds.items user site (life_of (process_at judge) port)

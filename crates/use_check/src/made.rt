@@ -1,8 +1,6 @@
 //! Rule V2: a variable is made before it is read.
-ghost use Rattle.std.specs.Prelude.{◌≡◌, IfOk};
-ghost use Rattle.demand_checks.specs.Answers.{Answers, all_shown};
-ghost use Rattle.demand_checks.specs.Judge.{IsJudge, TellOf};
-ghost use Rattle.demand_checks.specs.Unshown.{unshown};
+ghost use Rattle.std.specs.Prelude.{IfOk};
+ghost use Rattle.demand_checks.specs.Judge.{AreShown, AreUnshown, IsJudge};
 ghost use Rattle.use_check.specs.Made.{made_claims, own_pair};
 
 use demand_checks::{Judge, Pair, Place};
@@ -17,7 +15,7 @@ pub fn unshown_made(
     reads: &[Pair],
 ) -> Result<Vec<Pair>, AllocError>
     requires { IsJudge judge.now }
-    ensures { IfOk result (λ pairs. (answers : Answers) → TellOf judge.now answers → pairs.items ≡ unshown own_pair made_claims answers reads.now) }
+    ensures { IfOk result (λ pairs. AreUnshown judge.now own_pair made_claims reads.now pairs.items) }
 {
     let mut pairs = Vec::new(alloc);
     for read in reads {
@@ -31,7 +29,7 @@ pub fn unshown_made(
 /// Whether the act of the second site, which makes a variable, ends before the act of the first begins, which reads it.
 fn made_holds(judge: &Judge<'_>, read: Pair) -> bool
     requires { IsJudge judge.now }
-    ensures { (answers : Answers) → TellOf judge.now answers → result ≡ all_shown answers (made_claims read) }
+    ensures { AreShown judge.now (made_claims read) result }
 {
     judge.precedes(Place::end_of(read.second), 0, Place::begin_of(read.first))
 }

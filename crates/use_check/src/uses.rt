@@ -1,9 +1,7 @@
 //! The violations of V2 and V6.
 ghost use Rattle.std.specs.Prelude.{◌∷◌, [], IfOk};
-ghost use Rattle.core_term.specs.AcceptedFile.{process_in};
 ghost use Rattle.core_term.specs.declared.rules.Rule.TheVariants as rule;
-ghost use Rattle.demand_checks.specs.Found.{AreViolations};
-ghost use Rattle.demand_checks.specs.Thread.{IsReady, body_of};
+ghost use Rattle.demand_checks.specs.Thread.{AreViolationsOf, IsReady};
 
 use crate::made::unshown_made;
 use crate::wires::unshown_wires;
@@ -22,7 +20,7 @@ pub fn use_violations(
     lasts: &Lasts,
 ) -> Result<Vec<Violation>, AllocError>
     requires { IsReady proc.now thread elab.now order.now lasts.now }
-    ensures { IfOk result (λ violations. AreViolations (process_in proc.now) thread (body_of proc.now thread) (rule.V2 ∷ rule.V6 ∷ []) violations.items) }
+    ensures { IfOk result (λ found. AreViolationsOf proc.now thread (rule.V2 ∷ rule.V6 ∷ []) found.items) }
 {
     let judge = Judge::new(alloc, proc, thread, elab, order, lasts)?;
     let reads = judge.reads(alloc)?;

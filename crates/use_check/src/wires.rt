@@ -1,12 +1,9 @@
 //! Rule V6: a received value is used within each end of the life of its exchange.
-ghost use Rattle.std.specs.Prelude.{◌≡◌, ◌<◌, length, map, IfOk};
-ghost use Rattle.core_term.specs.Process.{life_of};
+ghost use Rattle.std.specs.Prelude.{◌<◌, length, map, IfOk};
 ghost use Rattle.core_term.specs.ProcessView.{end_of_life};
-ghost use Rattle.demand_checks.specs.Answers.{Answers, all_shown, shows};
-ghost use Rattle.demand_checks.specs.Judge.{IsJudge, TellOf, process_at};
-ghost use Rattle.demand_checks.specs.Rests.{pair_of};
-ghost use Rattle.demand_checks.specs.Unshown.{unshown};
-ghost use Rattle.use_check.specs.Wires.{AreOnPorts, end_claims, ends_claims, received_claims, until_claim, wire_claims};
+ghost use Rattle.demand_checks.specs.Judge.{AreShown, IsJudge, IsShown, process_at};
+ghost use Rattle.use_check.specs.Wires.{AreOnPorts, AreUnshownWires, end_claims, port_claims};
+ghost use Rattle.use_check.specs.Wires.{received_claims, until_claim, wire_claims};
 
 use demand_checks::{CoreLife, Deed, Judge, Pair, Place, Rest, Sites, SourceAtom};
 use std::alloc::{AllocError, Global};
@@ -22,7 +19,7 @@ pub fn unshown_wires(
 ) -> Result<Vec<Pair>, AllocError>
     requires judge { IsJudge judge.now }
     requires sites { AreOnPorts judge.now.deeds.items on_ports.now }
-    ensures { IfOk result (λ pairs. (answers : Answers) → TellOf judge.now answers → pairs.items ≡ unshown pair_of (wire_claims (process_at judge.now) judge.now.deeds.items) answers rests.now) }
+    ensures { IfOk result (λ pairs. AreUnshownWires judge.now rests.now pairs.items) }
 {
     let mut pairs = Vec::new(alloc);
     for rest in rests {
@@ -37,7 +34,7 @@ pub fn unshown_wires(
 fn wire_holds(judge: &Judge<'_>, on_ports: &Sites, rest: Rest) -> bool
     requires judge { IsJudge judge.now }
     requires sites { AreOnPorts judge.now.deeds.items on_ports.now }
-    ensures { (answers : Answers) → TellOf judge.now answers → result ≡ all_shown answers (wire_claims (process_at judge.now) judge.now.deeds.items rest) }
+    ensures { AreShown judge.now (wire_claims (process_at judge.now) judge.now.deeds.items rest) result }
 {
     match rest.atom {
         SourceAtom::Wire { site } => received_holds(
@@ -55,7 +52,7 @@ fn wire_holds(judge: &Judge<'_>, on_ports: &Sites, rest: Rest) -> bool
 fn received_holds(judge: &Judge<'_>, on_ports: &Sites, deed: Deed, user: u32, site: u32) -> bool
     requires judge { IsJudge judge.now }
     requires sites { AreOnPorts judge.now.deeds.items on_ports.now }
-    ensures { (answers : Answers) → TellOf judge.now answers → result ≡ all_shown answers (received_claims (process_at judge.now) judge.now.deeds.items user site deed) }
+    ensures { AreShown judge.now (received_claims (process_at judge.now) judge.now.deeds.items user site deed) result }
 {
     match deed {
         Deed::Receives(port) => {
@@ -73,7 +70,7 @@ fn ends_hold(judge: &Judge<'_>, on_ports: &Sites, port: u32, user: u32, site: u3
     requires judge { IsJudge judge.now }
     requires sites { AreOnPorts judge.now.deeds.items on_ports.now }
     requires port { port < length judge.now.proc.now.ports.items }
-    ensures { (answers : Answers) → TellOf judge.now answers → result ≡ all_shown answers (ends_claims judge.now.deeds.items user site (life_of (process_at judge.now) port)) }
+    ensures { AreShown judge.now (port_claims judge.now port user site) result }
 {
     for index in 0..judge.proc.end_count(port) {
         if !end_holds(judge, on_ports, judge.proc.end(port, index), user, site) {
@@ -87,7 +84,7 @@ fn ends_hold(judge: &Judge<'_>, on_ports: &Sites, port: u32, user: u32, site: u3
 fn end_holds(judge: &Judge<'_>, on_ports: &Sites, end: CoreLife, user: u32, site: u32) -> bool
     requires judge { IsJudge judge.now }
     requires sites { AreOnPorts judge.now.deeds.items on_ports.now }
-    ensures { (answers : Answers) → TellOf judge.now answers → result ≡ all_shown answers (end_claims judge.now.deeds.items user site (end_of_life end)) }
+    ensures { AreShown judge.now (end_claims judge.now.deeds.items user site (end_of_life end)) result }
 {
     match end {
         CoreLife::Cycles(cycles) => judge.used_by(user, 1 - i32::from(cycles), Place::end_of(site)),
@@ -98,7 +95,7 @@ fn end_holds(judge: &Judge<'_>, on_ports: &Sites, end: CoreLife, user: u32, site
 /// Whether a use of what the act of a site received is over by the exchange of each of these acts.
 fn untils_hold(judge: &Judge<'_>, acts: &[u32], user: u32, site: u32) -> bool
     requires { IsJudge judge.now }
-    ensures { (answers : Answers) → TellOf judge.now answers → result ≡ all_shown answers (map (until_claim judge.now.deeds.items user site) acts.now) }
+    ensures { AreShown judge.now (map (until_claim judge.now.deeds.items user site) acts.now) result }
 {
     for act in acts {
         if !until_holds(judge, *act, user, site) {
@@ -111,7 +108,7 @@ fn untils_hold(judge: &Judge<'_>, acts: &[u32], user: u32, site: u32) -> bool
 /// Whether a use is over as it is received, or else by the end of an act that comes after, in this turn and in the next.
 fn until_holds(judge: &Judge<'_>, act: u32, user: u32, site: u32) -> bool
     requires { IsJudge judge.now }
-    ensures { (answers : Answers) → TellOf judge.now answers → result ≡ shows answers (until_claim judge.now.deeds.items user site act) }
+    ensures { IsShown judge.now (until_claim judge.now.deeds.items user site act) result }
 {
     let received = Place::end_of(site);
     judge.used_by(user, 0, received)

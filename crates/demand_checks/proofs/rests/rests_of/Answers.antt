@@ -1,6 +1,6 @@
 use Rattle.std.proofs.Common.{arith}
 use Rattle.core_term.specs.View.{term_of}
-use Rattle.demand_checks.proofs.RestsRead.{one_more, none_yet, all_there}
+use Rattle.demand_checks.proofs.RestsRead.{one_more, all_there}
 use Rattle.demand_checks.proofs.rests.rests_of.Goals as goal
 
 pub loop-user-preserved : goal.loop-user-preserved

@@ -1,11 +1,11 @@
 -- The deed of the site is a send, so it has a table.
-use Rattle.std.proofs.Common.{◌∙◌, ap, sym, subst}
+use Rattle.std.proofs.Common.{sym, subst}
 use Rattle.std.proofs.lemmas.Int.{to_z-of_z}
 use Rattle.std.proofs.Common.{w32}
 use Rattle.order_rules.specs.Lag.{Admits}
 use Rattle.event_order.specs.Lags.{lag_of}
 use Rattle.demand_checks.specs.Answers.{Decides}
-use Rattle.demand_checks.proofs.Pointed.{is_inside, is_outside, table_there, table_wide, last_answer, no_last_answer, no_send_answer}
+use Rattle.demand_checks.proofs.Pointed.{is_inside, table_there, table_wide, last_answer}
 use Rattle.demand_checks.proofs.Deeds.{deed_send}
 use Rattle.demand_checks.specs.Judge.{body_at}
 use Rattle.demand_checks.proofs.judge.Judge.last_precedes.Goals as goal

@@ -1,5 +1,5 @@
 -- Both nodes are those of the places; where there is none, the thread has no such act.
-use Rattle.std.proofs.Common.{◌∙◌, ap, sym, subst, None}
+use Rattle.std.proofs.Common.{◌∙◌, sym, subst}
 use Rattle.std.proofs.lemmas.Int.{to_z-of_z}
 use Rattle.std.proofs.Common.{w32}
 use Rattle.order_rules.specs.Lag.{Admits}
