@@ -1,5 +1,4 @@
 -- How the types of the crate are seen as the states of a reading.
 pub mod Seen
-pub mod SeenThread
 pub mod SeenProcess
 pub mod SeenFile

@@ -7,6 +7,7 @@ use Rattle.anvil_tree.specs.View.{item_of}
 use Rattle.anvil_parser.specs.declared.counts.Counts.{Counts}
 use Rattle.anvil_parser.specs.declared.state.State.{State}
 use Rattle.anvil_parser.specs.declared.state.State.TheVariants as file_state
+use Rattle.anvil_parser.specs.declared.state.Reading.{Reading}
 use Rattle.anvil_grammar.specs.State as states
 use Rattle.anvil_grammar.specs.Limited.{Tally}
 use Rattle.anvil_parser.specs.Seen.{class_state_of}
@@ -28,8 +29,11 @@ tally_of counts = record {
 abbrev pub items_of : Vec Item Global → File
 items_of items = map item_of items.items
 
-abbrev pub state_of : State → states.State
-state_of (file_state.Between items) = states.between (items_of items)
-state_of (file_state.InClass items state) = states.in_class (items_of items) (class_state_of state)
-state_of (file_state.InProcess items state) = states.in_process (items_of items) (process_state_of state)
-state_of (file_state.Ended items) = states.ended (items_of items)
+abbrev pub state_of : File → State → states.State
+state_of items file_state.Between = states.between items
+state_of items (file_state.InClass state) = states.in_class items (class_state_of state)
+state_of items (file_state.InProcess state) = states.in_process items (process_state_of state)
+state_of items file_state.Ended = states.ended items
+
+abbrev pub reading_of : Reading → states.State
+reading_of reading = state_of (items_of reading.items) reading.state

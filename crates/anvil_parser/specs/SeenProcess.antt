@@ -1,15 +1,18 @@
--- How the types for processes and files are seen as states.
+-- How the types for processes are seen as states.
 use Rattle.std.specs.Prelude.{map}
 use Rattle.anvil_tree.specs.View.{term_of}
 use Rattle.anvil_parser.specs.declared.process.ProcessDraft.{ProcessDraft}
+use Rattle.anvil_parser.specs.declared.process.ProcessWanted.{ProcessWanted}
+use Rattle.anvil_parser.specs.declared.process.ProcessWanted.TheVariants as wanted
 use Rattle.anvil_parser.specs.declared.process.ProcessState.{ProcessState}
 use Rattle.anvil_parser.specs.declared.process.ProcessState.TheVariants as process_state
 use Rattle.anvil_grammar.specs.State as states
-use Rattle.anvil_parser.specs.Seen.{label_of, endpoint_state_of, register_state_of}
-use Rattle.anvil_parser.specs.SeenThread.{thread_of}
+use Rattle.parse_threads.specs.Seen.{label_of}
+use Rattle.parse_threads.specs.SeenThread.{thread_of}
+use Rattle.anvil_parser.specs.Seen.{endpoint_state_of, register_state_of}
 
-abbrev pub process_draft_of : ProcessDraft → states.ProcessDraft
-process_draft_of draft =
+abbrev pub process_parts_of : ProcessDraft → states.ProcessDraft
+process_parts_of draft =
     record {
       label = label_of draft.label;
       endpoints = draft.endpoints.items;
@@ -17,18 +20,22 @@ process_draft_of draft =
       threads = map term_of draft.threads.items;
     }
 
+abbrev pub process_at : states.ProcessDraft → ProcessWanted → states.ProcessState
+process_at draft wanted.FirstEndpoint = states.first_endpoint draft
+process_at draft wanted.NextEndpoint = states.next_endpoint draft
+process_at draft (wanted.InEndpoint endpoint) = states.in_endpoint draft (endpoint_state_of endpoint)
+process_at draft wanted.AfterEndpoint = states.after_endpoint draft
+process_at draft wanted.BodyOpening = states.body_opening draft
+process_at draft wanted.Registers = states.registers_wanted draft
+process_at draft (wanted.InRegister state) = states.in_register draft (register_state_of state)
+process_at draft wanted.Threads = states.threads_wanted draft
+process_at draft wanted.ThreadOpening = states.thread_opening draft
+process_at draft (wanted.InThread thread) = states.in_thread draft (thread_of thread)
+
+abbrev pub process_inside_of : ProcessDraft → states.ProcessState
+process_inside_of draft = process_at (process_parts_of draft) draft.wanted
+
 abbrev pub process_state_of : ProcessState → states.ProcessState
 process_state_of process_state.Name = states.process_name
 process_state_of (process_state.Opening label) = states.process_opening (label_of label)
-process_state_of (process_state.FirstEndpoint draft) = states.first_endpoint (process_draft_of draft)
-process_state_of (process_state.NextEndpoint draft) = states.next_endpoint (process_draft_of draft)
-process_state_of (process_state.InEndpoint draft state) =
-    states.in_endpoint (process_draft_of draft) (endpoint_state_of state)
-process_state_of (process_state.AfterEndpoint draft) = states.after_endpoint (process_draft_of draft)
-process_state_of (process_state.BodyOpening draft) = states.body_opening (process_draft_of draft)
-process_state_of (process_state.Registers draft) = states.registers_wanted (process_draft_of draft)
-process_state_of (process_state.InRegister draft state) =
-    states.in_register (process_draft_of draft) (register_state_of state)
-process_state_of (process_state.Threads draft) = states.threads_wanted (process_draft_of draft)
-process_state_of (process_state.ThreadOpening draft) = states.thread_opening (process_draft_of draft)
-process_state_of (process_state.InThread draft thread) = states.in_thread (process_draft_of draft) (thread_of thread)
+process_state_of (process_state.Inside draft) = process_inside_of draft

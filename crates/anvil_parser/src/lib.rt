@@ -1,28 +1,18 @@
 //! The tree of a list of tokens, or the first reason why there is none.
 //!
-//! `parse` goes over the tokens once. `state` says where the reading of a file stands between two tokens; `class`,
-//! `process`, `endpoint`, `register` and `width` read the parts that follow one another, `begin`, `inside`, `act` and
-//! `expr` those that lie in one another, which wait in the frames of a `stack`; `counts` keeps the limits.
+//! `parse` goes over the tokens once. `state` says where the reading of a file stands between two tokens, and takes it
+//! on in place; `class`, `message`, `process`, `endpoint`, `register` and `width` read the parts of a file, and
+//! `parse_threads` those of a thread; `counts` keeps the limits.
 #![tactic(auto)]
 
-mod act;
-mod begin;
 mod class;
 mod counts;
 mod endpoint;
-mod expect;
-mod expr;
-mod inside;
-mod nodes;
-mod operator;
+mod message;
 mod parser;
 mod process;
 mod register;
-mod room;
-mod stack;
 mod state;
-mod step;
-mod thread;
 mod width;
 
 pub use anvil_grammar::{

@@ -1,22 +1,21 @@
 //! The tree of a list of tokens, or the first reason why there is none.
-ghost use Rattle.std.specs.Prelude.{◌≡◌, ◌≢◌, ◌⊎◌, List, IfErr, IfOk, MatchOption, MatchResult, Some, None};
+ghost use Rattle.std.specs.Prelude.{◌≡◌, ◌≢◌, ◌⊎◌, IfErr, IfOk, MatchResult};
 ghost use Rattle.anvil_lexer.specs.TokenText.{AreClosed, ArePlacesRising};
 ghost use Rattle.anvil_tree.specs.Tree as tree;
 ghost use Rattle.anvil_tree.specs.View.{file_of};
 ghost use Rattle.anvil_tree.specs.Few.{IsFew};
 ghost use Rattle.anvil_tree.specs.Order.{ActsNeverFall, NeverFall, places_of_file};
 ghost use Rattle.anvil_grammar.specs.Refusal.{IsAccepted, IsFirstRefusal, IsSameRefusal};
-ghost use Rattle.anvil_grammar.specs.State as states;
 ghost use Rattle.anvil_grammar.specs.Limited.{Tally, admitted_with, goes_on, opened, past_limit, refused, take_token, verdict, within_limits};
-ghost use Rattle.anvil_parser.specs.Seen.{begun_of};
-ghost use Rattle.anvil_parser.specs.SeenFile.{items_of, state_of, tally_of};
+ghost use Rattle.parse_threads.specs.Seen.{begun_of};
+ghost use Rattle.anvil_parser.specs.SeenFile.{reading_of, tally_of};
 
 use crate::counts::Counts;
-use crate::state::{State, step};
-use crate::step::{Begun, Step};
+use crate::state::Reading;
 use anvil_grammar::ParseErr;
 use anvil_lexer::Token;
-use anvil_tree::{File, Item};
+use anvil_tree::File;
+use parse_threads::{Begun, Reached, refused};
 use std::alloc::Global;
 
 // The counts behind a token and the things that begin with it.
@@ -34,56 +33,38 @@ fn counted(counts: Counts, token: &Token, begun: Begun) -> Result<Counts, ParseE
 // One token more.
 fn take_token(
     alloc: Global,
-    state: State,
+    reading: &mut Reading,
     counts: Counts,
     token: &Token,
-) -> Result<(State, Counts), ParseErr>
+) -> Result<Counts, ParseErr>
     ensures { MatchResult result
-        (λ found. take_token (state_of state) (tally_of counts) token.now
-        ≡ goes_on (state_of found.0) (tally_of found.1))
+        (λ after. take_token (reading_of reading.old) (tally_of counts) token.now
+        ≡ goes_on (reading_of reading.new) (tally_of after))
         (λ refusal. (refusal ≡ ParseErr.NoMemory)
-        ⊎ (take_token (state_of state) (tally_of counts) token.now ≡ refused refusal)) }
+        ⊎ (take_token (reading_of reading.old) (tally_of counts) token.now ≡ refused refusal)) }
 {
-    match step(alloc, state, token) {
-        Ok(Step::Onward(begun, next)) => match counted(counts, token, begun) {
-            Ok(counts) => Ok((next, counts)),
-            Err(refusal) => Err(refusal),
-        },
-        Ok(Step::Finished(_)) => Err(ParseErr::Unexpected { at: token.at }),
+    match reading.step(alloc, token) {
+        Ok(Reached::Onward(begun)) => counted(counts, token, begun),
+        Ok(Reached::Finished(_)) => Err(ParseErr::Unexpected { at: token.at }),
         Err(refusal) => Err(refusal),
     }
 }
 
 // All tokens, one after the other, as far as they go.
-fn read(alloc: Global, tokens: &[Token]) -> Result<State, ParseErr>
+fn read(alloc: Global, tokens: &[Token]) -> Result<Reading, ParseErr>
     ensures { MatchResult result
-        (λ state. (tally : Tally) × (verdict tokens.now ≡ goes_on (state_of state) tally))
+        (λ reading. (tally : Tally) × (verdict tokens.now ≡ goes_on (reading_of reading) tally))
         (λ refusal. (refusal ≡ ParseErr.NoMemory) ⊎ (verdict tokens.now ≡ refused refusal)) }
 {
-    let mut state = State::Between(Vec::new(alloc));
+    let mut reading = Reading::new(alloc);
     let mut counts = Counts::none();
     for token in tokens {
-        match take_token(alloc, state, counts, token) {
-            Ok((next, after)) => {
-                state = next;
-                counts = after;
-            }
-            Err(refusal) => return Err(refusal),
+        match take_token(alloc, &mut reading, counts, token) {
+            Ok(after) => counts = after,
+            Err(refusal) => return refused(reading, refusal),
         }
     }
-    Ok(state)
-}
-
-// The items of a file that is read to its end.
-fn items_at_end(state: State) -> Option<Vec<Item>>
-    ensures { MatchOption result
-        ((file : tree.File) → state_of state ≢ states.ended file)
-        (λ items. state_of state ≡ states.ended (items_of items)) }
-{
-    match state {
-        State::Ended(items) => Some(items),
-        State::Between(_) | State::InClass(_, _) | State::InProcess(_, _) => None,
-    }
+    Ok(reading)
 }
 
 /// The tree of the tokens, which is the one file that they are by the grammar, within all limits; its places are in
@@ -113,7 +94,7 @@ pub fn parse(alloc: Global, tokens: &[Token]) -> Result<File, ParseErr>
         → MatchResult result (λ _. ⊥) (λ found. IsSameRefusal found refusal ⊎ (found ≡ ParseErr.NoMemory)) }
 {
     match read(alloc, tokens) {
-        Ok(state) => match items_at_end(state) {
+        Ok(reading) => match reading.into_items() {
             Some(items) => Ok(File { items }),
             None => unreachable!(),
         },

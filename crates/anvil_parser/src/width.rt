@@ -1,18 +1,12 @@
-//! Labels, widths and the small states.
+//! Reads `logic [ width ]` token by token.
 ghost use Rattle.std.specs.Prelude.{◌≡◌};
 ghost use Rattle.anvil_grammar.specs.Step.{width_step};
-ghost use Rattle.anvil_parser.specs.Seen.{IsStep, width_state_of, width_of};
+ghost use Rattle.parse_threads.specs.Seen.{IsReached};
+ghost use Rattle.anvil_parser.specs.Seen.{width_state_of, width_of};
 
-use crate::step::{Begun, Step};
 use anvil_grammar::ParseErr;
-use anvil_lexer::{Keyword, Mark, Name, Token, TokenKind};
-
-/// A name with its place.
-#[derive(Drop)]
-pub struct Label {
-    pub name: Name,
-    pub at: u32,
-}
+use anvil_lexer::{Keyword, Mark, Token, TokenKind};
+use parse_threads::{Begun, Reached};
 
 /// A width in bits with its place.
 #[derive(Clone, Copy)]
@@ -31,28 +25,21 @@ pub enum WidthState {
 }
 
 /// Reads on in `logic [ width ]`.
-pub fn width_step(state: WidthState, token: &Token) -> Result<Step<WidthState, Width>, ParseErr>
-    ensures { IsStep width_state_of width_of token.now (width_step (width_state_of state) token.now) result }
+pub fn width_step(state: &mut WidthState, token: &Token) -> Result<Reached<Width>, ParseErr>
+    ensures { IsReached (width_state_of state.new) width_of token.now
+        (width_step (width_state_of state.old) token.now) result }
 {
-    match (state, &token.kind) {
-        (WidthState::Logic, TokenKind::Key(Keyword::Logic)) => Ok(Step::Onward(
-            Begun::Nothing,
-            WidthState::Opening,
-        )),
-        (WidthState::Opening, TokenKind::Mark(Mark::OpenBracket)) => Ok(Step::Onward(
-            Begun::Nothing,
-            WidthState::Number,
-        )),
-        (WidthState::Number, TokenKind::Number(width)) => {
-            let width = Width {
-                width: *width,
-                width_at: token.at,
-            };
-            Ok(Step::Onward(Begun::Nothing, WidthState::Closing(width)))
+    *state = match (*state, &token.kind) {
+        (WidthState::Logic, TokenKind::Key(Keyword::Logic)) => WidthState::Opening,
+        (WidthState::Opening, TokenKind::Mark(Mark::OpenBracket)) => WidthState::Number,
+        (WidthState::Number, TokenKind::Number(width)) => WidthState::Closing(Width {
+            width: *width,
+            width_at: token.at,
+        }),
+        (WidthState::Closing(width), TokenKind::Mark(Mark::CloseBracket)) => {
+            return Ok(Reached::Finished(width));
         }
-        (WidthState::Closing(width), TokenKind::Mark(Mark::CloseBracket)) => Ok(Step::Finished(
-            width,
-        )),
-        _ => Err(ParseErr::Unexpected { at: token.at }),
-    }
+        _ => return Err(ParseErr::Unexpected { at: token.at }),
+    };
+    Ok(Reached::Onward(Begun::Nothing))
 }

@@ -1,0 +1,27 @@
+-- An act that is whole goes on by its bound variable and the frames below that.
+use Rattle.std.proofs.Common.{◌≡◌, List, ◌∷◌, Option, refl}
+use Rattle.anvil_lexer.specs.declared.token.TokenKind.{TokenKind}
+use Rattle.anvil_lexer.specs.declared.token.TokenKind.TheVariants.{Mark}
+use Rattle.anvil_lexer.specs.declared.token.Mark.TheVariants as mark
+use Rattle.anvil_tree.specs.Tree.{Name, Act, Term}
+use Rattle.parse_threads.specs.declared.stack.Joint.{Joint}
+use Rattle.parse_threads.specs.declared.stack.Joint.TheVariants as joint
+use Rattle.anvil_grammar.specs.State as states
+use Rattle.anvil_grammar.specs.State.{Frame}
+use Rattle.anvil_grammar.specs.Step.{act_step, term_ends}
+use Rattle.parse_threads.specs.SeenThread.{bound_of, unbound, joined_frame, joined_step, linked}
+
+pub act_joined : (stack : List Frame) (act : Act) (kind : TokenKind) → act_step stack act kind ≡ joined_step (bound_of stack) (unbound stack) act kind
+act_joined (states.binding name ∷ stack) act (Mark mark.Chain) = refl
+act_joined (states.binding name ∷ stack) act (Mark mark.Semicolon) = refl
+act_joined (states.binding name ∷ stack) act kind = refl
+act_joined stack act (Mark mark.Chain) = refl
+act_joined stack act (Mark mark.Semicolon) = refl
+act_joined stack act (Mark mark.CloseBrace) = refl
+act_joined stack act kind = refl
+
+-- a term that is whole is the end of the act that waits for it
+pub link_ends : (joint : Joint) (bound : Option Name) (act : Act) (stack : List Frame) (term : Term)
+    → term_ends (joined_frame joint bound act ∷ stack) term ≡ term_ends stack (linked joint bound act term)
+link_ends joint.Follow bound act stack term = refl
+link_ends joint.Beside bound act stack term = refl

@@ -1,0 +1,12 @@
+-- What the term comes to from here is what it comes to from the start; each turn takes a frame away.
+use Rattle.std.proofs.Common.{◌≡◌, length}
+use Rattle.anvil_tree.specs.View.{term_of}
+use Rattle.anvil_grammar.specs.Step.{term_ends}
+use Rattle.parse_threads.specs.SeenThread.{stack_of}
+use Rattle.parse_threads.proofs.act.term_ends.Given as goal
+
+abbrev pub invariant-loop-link : goal.invariant-loop-link
+invariant-loop-link l = term_ends (stack_of l.fn.thread.stack) (term_of l.fn.term) ≡ term_ends (stack_of l.thread.stack) (term_of l.term)
+
+abbrev pub decreases-loop-link : goal.decreases-loop-link
+decreases-loop-link l = length (stack_of l.thread.stack)
