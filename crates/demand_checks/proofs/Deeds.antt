@@ -94,7 +94,7 @@ module _ (body : Term) (deeds : List Deed) (are : AreDeeds body deeds) where
   pub stands_at : Numbered [] 0 body → (w : ℕ) → (deed_at deeds w ≡ deed.Other → ⊥) → IsAt body w
   stands_at numbered w told = elim (cases_lt w (size body)) [
     | inl k ↦ each_site body numbered w k
-    | inr k ↦ absurd (told (ap deed_or (slice_get_past deeds w (let z = are.count in omega (arith, z, k)))))
+    | inr k ↦ absurd (told (ap deed_or (slice_get_past deeds w (let known = are.count in omega (arith, known, k)))))
   ]
 
   act_at : Numbered [] 0 body → (Asked : Act → Type 0) (wanted : Deed) → ((a : Act) → deed_in a ≡ wanted → Asked a) → (wanted ≡ deed.Other → ⊥)

@@ -37,7 +37,7 @@ plain_act a = deed_in a ∷ plain_inner a
 counted_both : {A : Type 0} (these those : List A) (n m : ℕ) → length these ≡ n → length those ≡ m → length (these ++ those) ≡ n + m
 counted_both [] those n m is are = omega (arith, is, are)
 counted_both (first ∷ these) those zero m is are = absurd (omega (arith, is))
-counted_both (first ∷ these) those (suc n) m is are = let z = counted_both these those n m (omega (arith, is)) are in omega (arith, z)
+counted_both (first ∷ these) those (suc n) m is are = let known = counted_both these those n m (omega (arith, is)) are in omega (arith, known)
 
 mutual
   pub plain_size : (t : Term) → length (plain t) ≡ size t
@@ -46,9 +46,9 @@ mutual
   plain_size (Both a t) = counted_both (plain_act a) (plain t) _ _ (counted_act a) (plain_size t)
 
   counted_act : (a : Act) → length (plain_act a) ≡ act_size a
-  counted_act (If p e t u w) = let z = counted_both (plain t) (plain u) _ _ (plain_size t) (plain_size u) in omega (arith, z)
-  counted_act (When p e t) = let z = plain_size t in omega (arith, z)
-  counted_act (Block p t) = let z = plain_size t in omega (arith, z)
+  counted_act (If p e t u w) = let known = counted_both (plain t) (plain u) _ _ (plain_size t) (plain_size u) in omega (arith, known)
+  counted_act (When p e t) = let known = plain_size t in omega (arith, known)
+  counted_act (Block p t) = let known = plain_size t in omega (arith, known)
   counted_act (Cycle p n) = refl
   counted_act (Set p r e) = refl
   counted_act (Send p m e) = refl
@@ -118,9 +118,9 @@ deeds_are w body numbered deeds is =
 
 pub few_deeds : (body : CoreTerm) → IsBody body → (deeds : List Deed) → deeds ≡ deeds_of body → length deeds ≤ 512
 few_deeds body is_body deeds is =
-    let w : Widths = record { registers = λ r. 0; ports = λ m. 0; variables = λ y. 0 } in
-    let all = ap length (is ∙ same w body) in
-    let sizes = plain_size (term_of w body) in
-    let places = places_counted w body in
+    let no_widths : Widths = record { registers = λ r. 0; ports = λ m. 0; variables = λ y. 0 } in
+    let all = ap length (is ∙ same no_widths body) in
+    let sizes = plain_size (term_of no_widths body) in
+    let places = places_counted no_widths body in
     let few = is_body.few in
     omega (arith, all, sizes, places, few)

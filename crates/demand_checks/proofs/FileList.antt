@@ -31,7 +31,7 @@ rises_both (first ∷ these) those rise rises apart =
 one_rises : (i j : ℕ) (violations : List Violation) → IsAscending violations → Rises (map (broken i j) violations)
 one_rises i j [] ascending = tt
 one_rises i j (first ∷ rest) ascending =
-    ((λ other has. let z = mapped (broken i j) rest other has in subst (λ v. ComesBefore (broken i j first) v) (sym z.2) (inr (refl, inr (refl, ascending.0 z.0 z.1)))), one_rises i j rest ascending.1)
+    ((λ other has. let known = mapped (broken i j) rest other has in subst (λ v. ComesBefore (broken i j first) v) (sym known.2) (inr (refl, inr (refl, ascending.0 known.0 known.1)))), one_rises i j rest ascending.1)
 
 -- a record of the k-th thread from the number j on
 record OfThread (i j : ℕ) (p : Process) (threads : List Thread) (v : Broken) : Type 0 where
@@ -48,19 +48,19 @@ thread_sound i j p [] (one ∷ lists) are v has = elim are [ ]
 thread_sound i j p (thread ∷ threads) [] are v has = elim are [ ]
 thread_sound i j p (thread ∷ threads) (one ∷ lists) are v has = elim (has_either (map (broken i j) one) _ v has) [
   | inl k ↦
-      (let z = mapped (broken i j) one v k in
-      let fails = (are.0.sound z.0 z.1).1 in
+      (let known = mapped (broken i j) one v k in
+      let fails = (are.0.sound known.0 known.1).1 in
       record {
         place = 0;
         thread = thread;
-        process_is = ap (λ b. b.process) z.2;
-        thread_is = ap (λ b. b.thread) z.2 ∙ omega arith;
+        process_is = ap (λ b. b.process) known.2;
+        thread_is = ap (λ b. b.thread) known.2 ∙ omega arith;
         is_thread = refl;
-        fails = subst (λ b. Fails p b.thread thread.body b.rule b.first b.second) (sym z.2) fails;
+        fails = subst (λ b. Fails p b.thread thread.body b.rule b.first b.second) (sym known.2) fails;
       })
   | inr k ↦
-      (let z = thread_sound i (suc j) p threads lists are.1 v k in
-      record { place = suc z.place; thread = z.thread; process_is = z.process_is; thread_is = (let y = z.thread_is in omega (arith, y)); is_thread = z.is_thread; fails = z.fails })
+      (let known = thread_sound i (suc j) p threads lists are.1 v k in
+      record { place = suc known.place; thread = known.thread; process_is = known.process_is; thread_is = (let seen = known.thread_is in omega (arith, seen)); is_thread = known.is_thread; fails = known.fails })
 ]
 
 thread_whole : (i j : ℕ) (p : Process) (threads : List Thread) (lists : List (List Violation)) → AreOfThreads p j threads lists → (k : ℕ) (thread : Thread) → IsThread threads k thread
@@ -86,11 +86,11 @@ threads_rise i j p (thread ∷ threads) [] are = elim are [ ]
 threads_rise i j p (thread ∷ threads) (one ∷ lists) are =
     rises_both (map (broken i j) one) (of_threads i (suc j) lists) (one_rises i j one are.0.ascending) (threads_rise i (suc j) p threads lists are.1)
     (λ v w k l.
-    let y = mapped (broken i j) one v k in
-    let z = thread_sound i (suc j) p threads lists are.1 w l in
-    let process : v.process ≡ w.process = ap (λ b. b.process) y.2 ∙ sym z.process_is in
-    let thread_of : v.thread ≡ j = ap (λ b. b.thread) y.2 in
-    let later = z.thread_is in
+    let seen = mapped (broken i j) one v k in
+    let known = thread_sound i (suc j) p threads lists are.1 w l in
+    let process : v.process ≡ w.process = ap (λ b. b.process) seen.2 ∙ sym known.process_is in
+    let thread_of : v.thread ≡ j = ap (λ b. b.thread) seen.2 in
+    let later = known.thread_is in
     inr (process, inl (omega (arith, thread_of, later))))
 
 -- a record of the k-th process from the number i on
@@ -109,20 +109,20 @@ file_sound i [] (one ∷ lists) are v has = elim are [ ]
 file_sound i (p ∷ file) [] are v has = elim are [ ]
 file_sound i (p ∷ file) (one ∷ lists) are v has = elim (has_either (of_threads i 0 one) _ v has) [
   | inl k ↦
-      (let z = thread_sound i 0 p p.threads one are.0 v k in
-      let number : v.thread ≡ z.place = (let y = z.thread_is in omega (arith, y)) in
+      (let known = thread_sound i 0 p p.threads one are.0 v k in
+      let number : v.thread ≡ known.place = (let seen = known.thread_is in omega (arith, seen)) in
       record {
         place = 0;
         process = p;
-        thread = z.thread;
-        process_is = (let y = z.process_is in omega (arith, y));
+        thread = known.thread;
+        process_is = (let seen = known.process_is in omega (arith, seen));
         is_process = refl;
-        is_thread = subst (λ n. IsThread p.threads n z.thread) (sym number) z.is_thread;
-        fails = z.fails;
+        is_thread = subst (λ n. IsThread p.threads n known.thread) (sym number) known.is_thread;
+        fails = known.fails;
       })
   | inr k ↦
-      (let z = file_sound (suc i) file lists are.1 v k in
-      record { place = suc z.place; process = z.process; thread = z.thread; process_is = (let y = z.process_is in omega (arith, y)); is_process = z.is_process; is_thread = z.is_thread; fails = z.fails })
+      (let known = file_sound (suc i) file lists are.1 v k in
+      record { place = suc known.place; process = known.process; thread = known.thread; process_is = (let seen = known.process_is in omega (arith, seen)); is_process = known.is_process; is_thread = known.is_thread; fails = known.fails })
 ]
 
 file_whole : (i : ℕ) (file : List Process) (lists : List (List (List Violation))) → AreOfFile file lists → (k j : ℕ) (p : Process) (thread : Thread) → IsNth file k p → IsThread p.threads j thread
@@ -148,23 +148,23 @@ file_rises i (p ∷ file) [] are = elim are [ ]
 file_rises i (p ∷ file) (one ∷ lists) are =
     rises_both (of_threads i 0 one) (of_file (suc i) lists) (threads_rise i 0 p p.threads one are.0) (file_rises (suc i) file lists are.1)
     (λ v w k l.
-    let y = (thread_sound i 0 p p.threads one are.0 v k).process_is in
-    let z = (file_sound (suc i) file lists are.1 w l).process_is in
-    inl (omega (arith, y, z)))
+    let seen = (thread_sound i 0 p p.threads one are.0 v k).process_is in
+    let known = (file_sound (suc i) file lists are.1 w l).process_is in
+    inl (omega (arith, seen, known)))
 
 pub listed : FileLists
 listed file lists are = record {
   sound = λ v has.
-      let z = file_sound 0 file lists are v has in
-      let number : v.process ≡ z.place = (let y = z.process_is in omega (arith, y)) in
+      let known = file_sound 0 file lists are v has in
+      let number : v.process ≡ known.place = (let seen = known.process_is in omega (arith, seen)) in
       record {
-        process = z.process;
-        is_process = subst (λ n. IsNth file n z.process) (sym number) z.is_process;
-        thread = z.thread;
-        is_thread = z.is_thread;
-        claim = z.fails.claim;
-        demanded = z.fails.demanded;
-        fails = z.fails.fails;
+        process = known.process;
+        is_process = subst (λ n. IsNth file n known.process) (sym number) known.is_process;
+        thread = known.thread;
+        is_thread = known.is_thread;
+        claim = known.fails.claim;
+        demanded = known.fails.demanded;
+        fails = known.fails.fails;
       };
   whole = λ i j p thread nth is rule first second claim demanded. file_whole 0 file lists are i j p thread nth is i (omega arith) rule first second claim demanded;
   ascending = file_rises 0 file lists are;
@@ -184,8 +184,8 @@ thread_one (first ∷ threads) (suc j) one other is at = thread_one threads j on
 
 not_both : (one other : Violation) → ComesEarlier one other → ComesEarlier other one → ⊥
 not_both one other (inl k) (inl l) = omega (arith, k, l)
-not_both one other (inl k) (inr l) = let z = ap rule_number l.0 in omega (arith, k, z)
-not_both one other (inr k) (inl l) = let z = ap rule_number k.0 in omega (arith, l, z)
+not_both one other (inl k) (inr l) = let known = ap rule_number l.0 in omega (arith, k, known)
+not_both one other (inr k) (inl l) = let known = ap rule_number k.0 in omega (arith, l, known)
 not_both one other (inr k) (inr l) = sites k.1 l.1
   where
     sites : (one.first < other.first) ⊎ ((one.first ≡ other.first) × (one.second < other.second)) → (other.first < one.first) ⊎ ((other.first ≡ one.first) × (other.second < one.second)) → ⊥

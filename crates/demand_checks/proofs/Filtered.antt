@@ -20,14 +20,14 @@ some_not answers (claim ∷ claims) k = go (λ l. some_not answers claims l) (sh
   where
     go : (all_shown answers claims ≡ false → (one : Claim) × Has claims one × (shows answers one ≡ false)) → (b : Bool) → shows answers claim ≡ b → (one : Claim) × Has (claim ∷ claims) one × (shows answers one ≡ false)
     go deeper false is = (claim, inl refl, is)
-    go deeper true is = let z = deeper (sym (ap (λ b. b && all_shown answers claims) is) ∙ k) in (z.0, inr z.1, z.2)
+    go deeper true is = let known = deeper (sym (ap (λ b. b && all_shown answers claims) is) ∙ k) in (known.0, inr known.1, known.2)
 
 each_shown : (answers : Answers) (claims : List Claim) → all_shown answers claims ≡ true → (claim : Claim) → Has claims claim → shows answers claim ≡ true
 each_shown answers [] k claim has = elim has [ ]
 each_shown answers (first ∷ claims) k claim has = go (λ l later. each_shown answers claims l claim later) (shows answers first) refl has
   where
     go : (all_shown answers claims ≡ true → Has claims claim → shows answers claim ≡ true) → (b : Bool) → shows answers first ≡ b → Has (first ∷ claims) claim → shows answers claim ≡ true
-    go deeper false is l = let z : false ≡ true = sym (ap (λ b. b && all_shown answers claims) is) ∙ k in absurd cc
+    go deeper false is l = let known : false ≡ true = sym (ap (λ b. b && all_shown answers claims) is) ∙ k in absurd cc
     go deeper true is (inl same) = ap (shows answers) same ∙ is
     go deeper true is (inr later) = deeper (sym (ap (λ b. b && all_shown answers claims) is) ∙ k) later
 
@@ -38,12 +38,12 @@ module _ {X : Type 0} (pair_of : X → Pair) (claims_of : X → List Claim) (ans
     where
       go : (Has (unshown pair_of claims_of answers rest) one → (x : X) × Has rest x × (one ≡ pair_of x) × (all_shown answers (claims_of x) ≡ false)) → (b : Bool) → all_shown answers (claims_of item) ≡ b → (x : X) × Has (item ∷ rest) x × (one ≡ pair_of x) × (all_shown answers (claims_of x) ≡ false)
       go deeper true is =
-          let still : Has (unshown pair_of claims_of answers rest) one = subst (λ z. Has (if z then unshown pair_of claims_of answers rest else pair_of item ∷ unshown pair_of claims_of answers rest) one) is has in
-          let z = deeper still in (z.0, inr z.1, z.2, z.3)
+          let still : Has (unshown pair_of claims_of answers rest) one = subst (λ known. Has (if known then unshown pair_of claims_of answers rest else pair_of item ∷ unshown pair_of claims_of answers rest) one) is has in
+          let known = deeper still in (known.0, inr known.1, known.2, known.3)
       go deeper false is =
-          elim (subst (λ z. Has (if z then unshown pair_of claims_of answers rest else pair_of item ∷ unshown pair_of claims_of answers rest) one) is has) [
+          elim (subst (λ known. Has (if known then unshown pair_of claims_of answers rest else pair_of item ∷ unshown pair_of claims_of answers rest) one) is has) [
             | inl same ↦ (item, inl refl, same, is)
-            | inr later ↦ (let z = deeper later in (z.0, inr z.1, z.2, z.3))
+            | inr later ↦ (let known = deeper later in (known.0, inr known.1, known.2, known.3))
           ]
 
   to_unshown : (items : List X) (item : X) → Has items item → all_shown answers (claims_of item) ≡ false → Has (unshown pair_of claims_of answers items) (pair_of item)
@@ -64,13 +64,13 @@ module _ {X : Type 0} (pair_of : X → Pair) (claims_of : X → List Claim) (ans
       → AreFound p j body rule (unshown pair_of claims_of answers items)
   found p j body rule items numbered tell sound whole = record {
     sound = λ one has.
-        let z = from_unshown items one has in
-        let y = some_not answers (claims_of z.0) z.3 in
-        let demanded = sound z.0 z.1 y.0 y.1 in
-        subst (λ o. Fails p j body rule o.first o.second) (sym z.2) (record {
-          claim = y.0;
+        let known = from_unshown items one has in
+        let seen = some_not answers (claims_of known.0) known.3 in
+        let demanded = sound known.0 known.1 seen.0 seen.1 in
+        subst (λ o. Fails p j body rule o.first o.second) (sym known.2) (record {
+          claim = seen.0;
           demanded = demanded;
-          fails = subst (λ b. Decides b (Holds p body y.0)) y.2 (demand_shown p body answers tell j numbered rule _ _ y.0 demanded);
+          fails = subst (λ b. Decides b (Holds p body seen.0)) seen.2 (demand_shown p body answers tell j numbered rule _ _ seen.0 demanded);
         });
     whole = λ first second claim demanded. told first second claim demanded (whole first second claim demanded);
   }

@@ -57,7 +57,7 @@ same_pair one first second is are = ap (λ a. record { first = a; second = one.s
 pub mapped : {A B : Type 0} (f : A → B) (items : List A) (one : B) → Has (map f items) one → (item : A) × Has items item × (one ≡ f item)
 mapped f [] one has = elim has [ ]
 mapped f (item ∷ items) one (inl is) = (item, inl refl, is)
-mapped f (item ∷ items) one (inr has) = let z = mapped f items one has in (z.0, inr z.1, z.2)
+mapped f (item ∷ items) one (inr has) = let known = mapped f items one has in (known.0, inr known.1, known.2)
 
 pub in_map : {A B : Type 0} (f : A → B) (items : List A) (item : A) → Has items item → Has (map f items) (f item)
 in_map f [] item has = elim has [ ]
@@ -68,9 +68,9 @@ in_map f (first ∷ items) item (inr has) = inr (in_map f items item has)
 pub place_in : {A : Type 0} (items : List A) (item : A) → Has items item → (k : ℕ) × (slice_get items k ≡ Some item)
 place_in [] item has = elim has [ ]
 place_in (first ∷ items) item (inl is) = (0, ap Some (sym is))
-place_in (first ∷ items) item (inr has) = let z = place_in items item has in (suc z.0, z.1)
+place_in (first ∷ items) item (inr has) = let known = place_in items item has in (suc known.0, known.1)
 
 pub has_at : {A : Type 0} (items : List A) (k : ℕ) (item : A) → slice_get items k ≡ Some item → Has items item
 has_at [] k item at = absurd cc
-has_at (first ∷ items) zero item at = inl (let z : first ≡ item = cc in sym z)
+has_at (first ∷ items) zero item at = inl (let known : first ≡ item = cc in sym known)
 has_at (first ∷ items) (suc k) item at = inr (has_at items k item at)

@@ -103,16 +103,16 @@ no_rows numbers = (refl, λ k small. absurd (omega (arith, small)))
 
 pub row_more : (numbers : List (Option ℕ)) (high : ℕ) (rows : List (List ℕ)) (row : List ℕ) → AreRows numbers high rows → row ≡ places_from high 0 numbers → AreRows numbers (high + 1) (rows ++ row ∷ [])
 row_more numbers high rows row are is = (
-  (let z = counted rows in let y = are.0 in omega (arith, z, y)),
+  (let known = counted rows in let seen = are.0 in omega (arith, known, seen)),
   λ k small. elim (cases_lt k high) [
     | inl l ↦ earlier rows k (are.1 k l)
-    | inr l ↦ (let z = are.0 in let same : k ≡ length rows = omega (arith, z, small, l) in subst (λ n. slice_get (rows ++ row ∷ []) n ≡ Some (places_from n 0 numbers)) (sym same) (last rows ∙ ap Some (is ∙ ap (λ n. places_from n 0 numbers) (sym z))))
+    | inr l ↦ (let known = are.0 in let same : k ≡ length rows = omega (arith, known, small, l) in subst (λ n. slice_get (rows ++ row ∷ []) n ≡ Some (places_from n 0 numbers)) (sym same) (last rows ∙ ap Some (is ∙ ap (λ n. places_from n 0 numbers) (sym known))))
   ],
 )
   where
     counted : (those : List (List ℕ)) → length (those ++ row ∷ []) ≡ length those + 1
     counted [] = refl
-    counted (first ∷ those) = let z = counted those in omega (arith, z)
+    counted (first ∷ those) = let known = counted those in omega (arith, known)
 
     stays : (list : List (List ℕ)) (n : ℕ) (item : List ℕ) → slice_get list n ≡ Some item → slice_get (list ++ row ∷ []) n ≡ Some item
     stays [] n item k = absurd cc
@@ -131,8 +131,8 @@ pub rows_tell : (numbers : List (Option ℕ)) (bound high : ℕ) (rows : List (L
 rows_tell numbers bound high rows are reach bounded number = elim (cases_lt number high) [
   | inl k ↦ ap row_or (are.1 number k)
   | inr k ↦
-      ap row_or (slice_get_past rows number (let z = are.0 in omega (arith, z, k)))
-      ∙ sym (no_places number 0 numbers (λ has. let z = bounded number has in absurd (omega (arith, z, k, reach))))
+      ap row_or (slice_get_past rows number (let known = are.0 in omega (arith, known, k)))
+      ∙ sym (no_places number 0 numbers (λ has. let known = bounded number has in absurd (omega (arith, known, k, reach))))
 ]
 
 pub map_more : {A B : Type 0} (f : A → B) (items : List A) (item : A) → map f (items ++ item ∷ []) ≡ map f items ++ f item ∷ []

@@ -24,8 +24,8 @@ made_kept (first ∷ rest) one has = go (is_made first.rule) refl has (λ k. mad
     go : (b : Bool) → is_made first.rule ≡ b → Has (if b then first ∷ made_of rest else made_of rest) one → (Has (made_of rest) one → Has rest one × (is_made one.rule ≡ true))
         → Has (first ∷ rest) one × (is_made one.rule ≡ true)
     go true is (inl same) deeper = (inl same, subst (λ v. is_made v.rule ≡ true) (sym same) is)
-    go true is (inr later) deeper = let z = deeper later in (inr z.0, z.1)
-    go false is later deeper = let z = deeper later in (inr z.0, z.1)
+    go true is (inr later) deeper = let known = deeper later in (inr known.0, known.1)
+    go false is later deeper = let known = deeper later in (inr known.0, known.1)
 
 others_kept : (violations : List Violation) (one : Violation) → Has (others_of violations) one → Has violations one × (is_made one.rule ≡ false)
 others_kept [] one has = elim has [ ]
@@ -34,8 +34,8 @@ others_kept (first ∷ rest) one has = go (is_made first.rule) refl has (λ k. o
     go : (b : Bool) → is_made first.rule ≡ b → Has (if b then others_of rest else first ∷ others_of rest) one → (Has (others_of rest) one → Has rest one × (is_made one.rule ≡ false))
         → Has (first ∷ rest) one × (is_made one.rule ≡ false)
     go false is (inl same) deeper = (inl same, subst (λ v. is_made v.rule ≡ false) (sym same) is)
-    go false is (inr later) deeper = let z = deeper later in (inr z.0, z.1)
-    go true is later deeper = let z = deeper later in (inr z.0, z.1)
+    go false is (inr later) deeper = let known = deeper later in (inr known.0, known.1)
+    go true is later deeper = let known = deeper later in (inr known.0, known.1)
 
 in_made : (violations : List Violation) (one : Violation) → Has violations one → is_made one.rule ≡ true → Has (made_of violations) one
 in_made [] one has is = elim has [ ]
@@ -75,12 +75,12 @@ others_rise (first ∷ rest) ascending = go (is_made first.rule) (others_rise re
 
 -- two parts, of which the rules of the first come before those of the second
 joined : (these those : List Violation) (one two three four : ℕ) → Between one two these → Between three four those → two < three → IsAscending these → IsAscending those → IsAscending (these ++ those)
-joined these those one two three four low high less rises rise = one_after these those rises rise (λ first second k l. inl (let y = low first k in let z = high second l in omega (arith, y.1, z.0, less)))
+joined these those one two three four low high less rises rise = one_after these those rises rise (λ first second k l. inl (let seen = low first k in let known = high second l in omega (arith, seen.1, known.0, less)))
 
 both_between : (these those : List Violation) (one two three four : ℕ) → Between one two these → Between three four those → one ≤ three → two ≤ four → Between one four (these ++ those)
 both_between these those one two three four low high first last item has = elim (has_either these those item has) [
-  | inl k ↦ (let z = low item k in (z.0, omega (arith, z.1, last)))
-  | inr k ↦ (let z = high item k in (omega (arith, z.0, first), z.1))
+  | inl k ↦ (let known = low item k in (known.0, omega (arith, known.1, last)))
+  | inr k ↦ (let known = high item k in (omega (arith, known.0, first), known.1))
 ]
 
 made_number : (rule : Rule) → is_made rule ≡ true → rule ≡ V2
@@ -96,19 +96,19 @@ at_rule : (rule wanted : Rule) → rule ≡ wanted → rule_number rule ≡ rule
 at_rule rule wanted is = ap rule_number is
 
 wire_number : (rule : Rule) → Has (V2 ∷ V6 ∷ []) rule → is_made rule ≡ false → rule_number rule ≡ 6
-wire_number rule (inl is) other = absurd (let z : true ≡ false = subst (λ r. is_made r ≡ false) is other in cc)
+wire_number rule (inl is) other = absurd (let known : true ≡ false = subst (λ r. is_made r ≡ false) is other in cc)
 wire_number rule (inr (inl is)) other = at_rule rule V6 is
 wire_number rule (inr (inr none)) other = elim none [ ]
 
 send_number : (rule : Rule) → Has (V3 ∷ V4 ∷ V5 ∷ []) rule → (3 ≤ rule_number rule) × (rule_number rule ≤ 5)
-send_number rule (inl is) = let z = at_rule rule V3 is in (omega (arith, z), omega (arith, z))
-send_number rule (inr (inl is)) = let z = at_rule rule V4 is in (omega (arith, z), omega (arith, z))
-send_number rule (inr (inr (inl is))) = let z = at_rule rule V5 is in (omega (arith, z), omega (arith, z))
+send_number rule (inl is) = let known = at_rule rule V3 is in (omega (arith, known), omega (arith, known))
+send_number rule (inr (inl is)) = let known = at_rule rule V4 is in (omega (arith, known), omega (arith, known))
+send_number rule (inr (inr (inl is))) = let known = at_rule rule V5 is in (omega (arith, known), omega (arith, known))
 send_number rule (inr (inr (inr none))) = elim none [ ]
 
 loan_number : (rule : Rule) → Has (V7 ∷ V8 ∷ []) rule → (7 ≤ rule_number rule) × (rule_number rule ≤ 8)
-loan_number rule (inl is) = let z = at_rule rule V7 is in (omega (arith, z), omega (arith, z))
-loan_number rule (inr (inl is)) = let z = at_rule rule V8 is in (omega (arith, z), omega (arith, z))
+loan_number rule (inl is) = let known = at_rule rule V7 is in (omega (arith, known), omega (arith, known))
+loan_number rule (inr (inl is)) = let known = at_rule rule V8 is in (omega (arith, known), omega (arith, known))
 loan_number rule (inr (inr none)) = elim none [ ]
 
 of_uses : (rule : Rule) → Has (V2 ∷ V6 ∷ []) rule → Has all_rules rule
@@ -144,16 +144,16 @@ module _ (p : Process) (j : ℕ) (body : Term) (uses sends loans : List Violatio
   Sound one = Has all_rules one.rule × Fails p j body one.rule one.first one.second
 
   use_sound : (one : Violation) → Has uses one → Sound one
-  use_sound one has = let z = of_use.sound one has in (of_uses one.rule z.0, z.1)
+  use_sound one has = let known = of_use.sound one has in (of_uses one.rule known.0, known.1)
 
   sound : (one : Violation) → Has (merged uses sends loans) one → Sound one
   sound one has = elim (has_either (made_of uses) _ one has) [
     | inl k ↦ use_sound one (made_kept uses one k).0
     | inr k ↦ elim (has_either sends _ one k) [
-      | inl l ↦ (let z = of_send.sound one l in (of_sends one.rule z.0, z.1))
+      | inl l ↦ (let known = of_send.sound one l in (of_sends one.rule known.0, known.1))
       | inr l ↦ elim (has_either (others_of uses) loans one l) [
         | inl m ↦ use_sound one (others_kept uses one m).0
-        | inr m ↦ (let z = of_loan.sound one m in (of_loans one.rule z.0, z.1))
+        | inr m ↦ (let known = of_loan.sound one m in (of_loans one.rule known.0, known.1))
       ]
     ]
   ]
@@ -184,10 +184,10 @@ module _ (p : Process) (j : ℕ) (body : Term) (uses sends loans : List Violatio
   ]
 
   made_between : Between 2 2 (made_of uses)
-  made_between one has = let z = made_kept uses one has in let n = at_rule one.rule V2 (made_number one.rule z.1) in (omega (arith, n), omega (arith, n))
+  made_between one has = let known = made_kept uses one has in let number_is = at_rule one.rule V2 (made_number one.rule known.1) in (omega (arith, number_is), omega (arith, number_is))
 
   others_between : Between 6 6 (others_of uses)
-  others_between one has = let z = others_kept uses one has in let n = wire_number one.rule (of_use.sound one z.0).0 z.1 in (omega (arith, n), omega (arith, n))
+  others_between one has = let known = others_kept uses one has in let number_is = wire_number one.rule (of_use.sound one known.0).0 known.1 in (omega (arith, number_is), omega (arith, number_is))
 
   sends_between : Between 3 5 sends
   sends_between one has = send_number one.rule (of_send.sound one has).0

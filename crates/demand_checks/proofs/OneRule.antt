@@ -15,7 +15,7 @@ use Rattle.demand_checks.proofs.Listed.{has_left, has_right, has_either}
 listed : (rule : Rule) (pairs : List Pair) (one : Violation) → Has (map (violation rule) pairs) one → (pair : Pair) × Has pairs pair × (one ≡ violation rule pair)
 listed rule [] one has = elim has [ ]
 listed rule (pair ∷ pairs) one (inl is) = (pair, inl refl, is)
-listed rule (pair ∷ pairs) one (inr has) = let z = listed rule pairs one has in (z.0, inr z.1, z.2)
+listed rule (pair ∷ pairs) one (inr has) = let known = listed rule pairs one has in (known.0, inr known.1, known.2)
 
 in_list : (rule : Rule) (pairs : List Pair) (pair : Pair) → Has pairs pair → Has (map (violation rule) pairs) (violation rule pair)
 in_list rule [] pair has = elim has [ ]
@@ -25,7 +25,7 @@ in_list rule (first ∷ pairs) pair (inr has) = inr (in_list rule pairs pair has
 rising : (rule : Rule) (pairs : List Pair) → AreAscending pairs → IsAscending (map (violation rule) pairs)
 rising rule [] ascending = tt
 rising rule (pair ∷ pairs) ascending =
-    ((λ other has. let z = listed rule pairs other has in subst (λ v. ComesEarlier (violation rule pair) v) (sym z.2) (inr (refl, ascending.0 z.0 z.1))), rising rule pairs ascending.1)
+    ((λ other has. let known = listed rule pairs other has in subst (λ v. ComesEarlier (violation rule pair) v) (sym known.2) (inr (refl, ascending.0 known.0 known.1))), rising rule pairs ascending.1)
 
 pub one_after : (these those : List Violation) → IsAscending these → IsAscending those → ((one other : Violation) → Has these one → Has those other → ComesEarlier one other) → IsAscending (these ++ those)
 one_after [] those rise rises apart = rises
@@ -38,10 +38,10 @@ pub one_rule_more : (p : Process) (j : ℕ) (body : Term) (rules : List Rule) (r
 one_rule_more p j body rules rule violations old new settled are found earlier all is =
     subst (λ v. AreViolations p j body (rules ++ rule ∷ []) v) (sym is) (record {
       sound = λ one has. elim (has_either violations (map (violation rule) new) one has) [
-        | inl k ↦ (let z = are.sound one k in (has_left rules _ one.rule z.0, z.1))
+        | inl k ↦ (let known = are.sound one k in (has_left rules _ one.rule known.0, known.1))
         | inr k ↦
-            (let z = listed rule new one k in
-            subst (λ v. Has (rules ++ rule ∷ []) v.rule × Fails p j body v.rule v.first v.second) (sym z.2) (has_right rules _ rule (inl refl), found.sound z.0 (settled.sound z.0 z.1)))
+            (let known = listed rule new one k in
+            subst (λ v. Has (rules ++ rule ∷ []) v.rule × Fails p j body v.rule v.first v.second) (sym known.2) (has_right rules _ rule (inl refl), found.sound known.0 (settled.sound known.0 known.1)))
       ];
       whole = λ other has first second claim demanded. elim (has_either rules (rule ∷ []) other has) [
         | inl k ↦ elim (are.whole other k first second claim demanded) [ inl l ↦ inl l | inr l ↦ inr (has_left violations _ _ l) ]
@@ -51,7 +51,7 @@ one_rule_more p j body rules rule violations old new settled are found earlier a
         ]
       ];
       ascending = one_after violations (map (violation rule) new) are.ascending (rising rule new settled.ascending)
-          (λ one other k l. inl (let z = listed rule new other l in subst (λ v. rule_number one.rule < rule_number v.rule) (sym z.2) (earlier one.rule (are.sound one k).0)));
+          (λ one other k l. inl (let known = listed rule new other l in subst (λ v. rule_number one.rule < rule_number v.rule) (sym known.2) (earlier one.rule (are.sound one k).0)));
     })
   where
     of_rule : (other : Rule) → other ≡ rule → (first second : ℕ) (claim : Claim) → Demands p j body other first second claim

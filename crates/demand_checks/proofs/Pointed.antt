@@ -77,12 +77,12 @@ site_is place = go place.end
 -- a site that has no node is none, and one that has is one
 pub is_inside : {N : Type 0} (site count : ℕ) (node : N) (right : N) → (site < count → Some node ≡ Some right) → (count ≤ site → Some node ≡ None) → (site < count) × (node ≡ right)
 is_inside site count node right inside outside = elim (cases_lt site count) [
-  | inl k ↦ (k, (let z = inside k in cc))
-  | inr k ↦ (let z = outside k in absurd cc)
+  | inl k ↦ (k, (let known = inside k in cc))
+  | inr k ↦ (let known = outside k in absurd cc)
 ]
 
 pub is_outside : {N : Type 0} (site count : ℕ) (right : N) → (site < count → None ≡ Some right) → count ≤ site
-is_outside site count right inside = elim (cases_lt site count) [ inl k ↦ (let z = inside k in absurd cc) | inr k ↦ k ]
+is_outside site count right inside = elim (cases_lt site count) [ inl k ↦ (let known = inside k in absurd cc) | inr k ↦ k ]
 
 module _ (body : Term) (numbered : Numbered [] 0 body) where
   pub pointed : (place : Place) → place.site < size body → IsPoint Point (HasForm body) (point_of place)
@@ -102,7 +102,7 @@ module _ (judge : Judge) (is : IsJudge judge) where
   -- the node of a place is one of the graph
   pub node_small : (place : Place) (node : ℕ) → place.site < length judge.deeds.items → node ≡ node_of (body_at judge) (point_of place) → node < judge.order.now.count
   node_small place node small at =
-      let of_text = pointed (body_at judge) is.numbered place (let z = counted in omega (arith, z, small)) in
+      let of_text = pointed (body_at judge) is.numbered place (let known = counted in omega (arith, known, small)) in
       let inside = is.ready.twice.stands.inside (point_of place) of_text in
       let all = is.ready.order_is.count in
       omega (arith, inside.0, all, at)
@@ -112,37 +112,37 @@ module _ (judge : Judge) (is : IsJudge judge) where
       → ((events : List Event) → IsOrderOf events judge.order.now → IsLagOf events lag from to) → Decides answer (Admits (lag_of lag) d)
       → (answers : Answers) → TellOf judge answers → answer ≡ answers.order (point_of a) d (point_of b)
   order_answer a b d from to lag answer small_a small_b from_is to_is is_lag decides answers tell =
-      let z = counted in
-      let below_a : a.site < size (body_at judge) = omega (arith, z, small_a) in
-      let below_b : b.site < size (body_at judge) = omega (arith, z, small_b) in
-      let p = process_at judge in
-      let graph = graph_is p (body_at judge) is.numbered in
+      let known = counted in
+      let below_a : a.site < size (body_at judge) = omega (arith, known, small_a) in
+      let below_b : b.site < size (body_at judge) = omega (arith, known, small_b) in
+      let process = process_at judge in
+      let graph = graph_is process (body_at judge) is.numbered in
       let of_graph : IsLagOf (twice (body_at judge)) lag (node_of (body_at judge) (point_of a)) (node_of (body_at judge) (point_of b)) =
       subst (λ v. IsLagOf (twice (body_at judge)) lag (node_of (body_at judge) (point_of a)) v) to_is
       (subst (λ u. IsLagOf (twice (body_at judge)) lag u to) from_is
       (subst (λ e. IsLagOf e lag from to) is.ready.twice.graph (is_lag judge.elab.now.graph is.ready.order_is))) in
-      let tells = order_told p (body_at judge) (graph_of p (body_at judge)) graph (point_of a) (point_of b) (pointed (body_at judge) is.numbered a below_a)
+      let tells = order_told process (body_at judge) (graph_of process (body_at judge)) graph (point_of a) (point_of b) (pointed (body_at judge) is.numbered a below_a)
       (pointed (body_at judge) is.numbered b below_b) (lag_of lag) of_graph in
       same_answer _ answer (answers.order (point_of a) d (point_of b)) (decided_by _ _ answer (tells d) decides)
       (tell.order (point_of a) d (point_of b) (pointed (body_at judge) is.numbered a below_a) (pointed (body_at judge) is.numbered b below_b))
 
   pub no_first_answer : (a b : Place) (d : ℤ) → length judge.deeds.items ≤ a.site → (answers : Answers) → TellOf judge answers → false ≡ answers.order (point_of a) d (point_of b)
-  no_first_answer a b d large answers tell = sym (tell.no_first (point_of a) d (point_of b) (let z = counted in let s = site_is a in omega (arith, z, s, large)))
+  no_first_answer a b d large answers tell = sym (tell.no_first (point_of a) d (point_of b) (let known = counted in let place_site = site_is a in omega (arith, known, place_site, large)))
 
   pub no_second_answer : (a b : Place) (d : ℤ) → length judge.deeds.items ≤ b.site → (answers : Answers) → TellOf judge answers → false ≡ answers.order (point_of a) d (point_of b)
-  no_second_answer a b d large answers tell = sym (tell.no_second (point_of a) d (point_of b) (let z = counted in let s = site_is b in omega (arith, z, s, large)))
+  no_second_answer a b d large answers tell = sym (tell.no_second (point_of a) d (point_of b) (let known = counted in let place_site = site_is b in omega (arith, known, place_site, large)))
 
   -- the table of a send
   pub table_there : (send m : ℕ) → HasAct (body_at judge) send (λ a. Sends a m) → IsSome (table_of judge.lasts.now send)
-  table_there send m sends = let z = is.ready.lasts_are send m sends in subst IsSome (sym z.1) refl
+  table_there send m sends = let known = is.ready.lasts_are send m sends in subst IsSome (sym known.1) refl
 
   pub table_wide : (send m : ℕ) (table : EndTable) → HasAct (body_at judge) send (λ a. Sends a m) → table_of judge.lasts.now send ≡ Some table
       → (b : Place) (node : ℕ) → b.site < length judge.deeds.items → node ≡ node_of (body_at judge) (point_of b) → node < event_count table
   table_wide send m table sends found b node small at =
-      let z = is.ready.lasts_are send m sends in
-      let same : Some z.0 ≡ Some table = sym z.1 ∙ found in
-      let tables : z.0 ≡ table = cc in
-      let count : event_count table ≡ length (twice (body_at judge)) = subst (λ t. event_count t ≡ length (twice (body_at judge))) tables z.2.count in
+      let known = is.ready.lasts_are send m sends in
+      let same : Some known.0 ≡ Some table = sym known.1 ∙ found in
+      let tables : known.0 ≡ table = cc in
+      let count : event_count table ≡ length (twice (body_at judge)) = subst (λ t. event_count t ≡ length (twice (body_at judge))) tables known.2.count in
       let order_count = is.ready.order_is.count in
       let graph = ap length is.ready.twice.graph in
       let there = node_small b node small at in
@@ -153,26 +153,26 @@ module _ (judge : Judge) (is : IsJudge judge) where
       → ((events : List Event) (from : ℕ) (ends : List (Ending ℕ)) → IsTableOf events from ends table → IsEndLagOf events from ends lag to)
       → Decides answer (Admits (lag_of lag) d) → (answers : Answers) → TellOf judge answers → answer ≡ answers.last send d (point_of b)
   last_answer send m table b d to lag answer sends found small to_is is_lag decides answers tell =
-      let z = is.ready.lasts_are send m sends in
-      let same : Some z.0 ≡ Some table = sym z.1 ∙ found in
-      let tables : z.0 ≡ table = cc in
-      let c = counted in
-      let below_b : b.site < size (body_at judge) = omega (arith, c, small) in
-      let below_send : send < size (body_at judge) = (let y = site_below (body_at judge) sends.1 sends.0 is.numbered sends.2 in omega (arith, y, sends.3)) in
-      let p = process_at judge in
-      let graph = graph_is p (body_at judge) is.numbered in
+      let known = is.ready.lasts_are send m sends in
+      let same : Some known.0 ≡ Some table = sym known.1 ∙ found in
+      let tables : known.0 ≡ table = cc in
+      let count_is = counted in
+      let below_b : b.site < size (body_at judge) = omega (arith, count_is, small) in
+      let below_send : send < size (body_at judge) = (let seen = site_below (body_at judge) sends.1 sends.0 is.numbered sends.2 in omega (arith, seen, sends.3)) in
+      let process = process_at judge in
+      let graph = graph_is process (body_at judge) is.numbered in
       let start = node_of (body_at judge) (end_of send) in
-      let ends = endings (body_at judge) (node_of (body_at judge)) (life_of p m) in
+      let ends = endings (body_at judge) (node_of (body_at judge)) (life_of process m) in
       let of_graph : IsEndLagOf (twice (body_at judge)) start ends lag (node_of (body_at judge) (point_of b)) =
       subst (λ v. IsEndLagOf (twice (body_at judge)) start ends lag v) to_is
-      (is_lag (twice (body_at judge)) start ends (subst (λ t. IsTableOf (twice (body_at judge)) start ends t) tables z.2)) in
+      (is_lag (twice (body_at judge)) start ends (subst (λ t. IsTableOf (twice (body_at judge)) start ends t) tables known.2)) in
       let at_send = pointed (body_at judge) is.numbered (record { late = false; end = true; site = send }) below_send in
-      let tells = last_told p (body_at judge) (graph_of p (body_at judge)) graph send m (point_of b) at_send (pointed (body_at judge) is.numbered b below_b) (lag_of lag) of_graph in
+      let tells = last_told process (body_at judge) (graph_of process (body_at judge)) graph send m (point_of b) at_send (pointed (body_at judge) is.numbered b below_b) (lag_of lag) of_graph in
       same_answer _ answer (answers.last send d (point_of b)) (decided_by _ _ answer (tells d) decides)
       (tell.last send m sends d (point_of b) (pointed (body_at judge) is.numbered b below_b))
 
   pub no_last_answer : (send : ℕ) (d : ℤ) (b : Place) → length judge.deeds.items ≤ b.site → (answers : Answers) → TellOf judge answers → false ≡ answers.last send d (point_of b)
-  no_last_answer send d b large answers tell = sym (tell.no_last send d (point_of b) (let z = counted in let s = site_is b in omega (arith, z, s, large)))
+  no_last_answer send d b large answers tell = sym (tell.no_last send d (point_of b) (let known = counted in let place_site = site_is b in omega (arith, known, place_site, large)))
 
   pub no_send_answer : (send : ℕ) (d : ℤ) (b : Place) → ((m : ℕ) → deed_at judge.deeds.items send ≡ deed.Sends m → ⊥) → (answers : Answers) → TellOf judge answers → false ≡ answers.last send d (point_of b)
   no_send_answer send d b none answers tell = sym (tell.no_send send (λ m sends. none m (send_deed (body_at judge) judge.deeds.items is.deeds send m sends)) d (point_of b))

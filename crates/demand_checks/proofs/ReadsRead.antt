@@ -74,26 +74,26 @@ mentions p (Var z) read has = by_variable p z read has
 mentions p (Reg r) read has = elim has [ ]
 mentions p (Not w e) read has = mentions p e read has
 mentions p (Bin o w v a b) read has = elim (has_either (in_expr p a) _ read has) [
-  | inl k ↦ (let m = mentions p a read k in (m.0, inl m.1))
-  | inr k ↦ (let m = mentions p b read k in (m.0, inr m.1))
+  | inl k ↦ (let mention = mentions p a read k in (mention.0, inl mention.1))
+  | inr k ↦ (let mention = mentions p b read k in (mention.0, inr mention.1))
 ]
 mentions p (Slice z high low) read has = by_variable p z read has
 mentions p (Choose c a b) read has = elim (has_either (in_expr p c) _ read has) [
-  | inl k ↦ (let m = mentions p c read k in (m.0, inl m.1))
+  | inl k ↦ (let mention = mentions p c read k in (mention.0, inl mention.1))
   | inr k ↦ elim (has_either (in_expr p a) _ read k) [
-    | inl l ↦ (let m = mentions p a read l in (m.0, inr (inl m.1)))
-    | inr l ↦ (let m = mentions p b read l in (m.0, inr (inr m.1)))
+    | inl l ↦ (let mention = mentions p a read l in (mention.0, inr (inl mention.1)))
+    | inr l ↦ (let mention = mentions p b read l in (mention.0, inr (inr mention.1)))
   ]
 ]
 
 own_read : (a : Act) (read : Pair) → Has (own a) read → (site a ≡ read.first) × Reads a read.second
-own_read (Set p r e) read has = let m = mentions p e read has in (sym m.0, m.1)
-own_read (Send p m e) read has = let m = mentions p e read has in (sym m.0, m.1)
-own_read (If p e t u w) read has = let m = mentions p e read has in (sym m.0, m.1)
-own_read (When p e t) read has = let m = mentions p e read has in (sym m.0, m.1)
-own_read (Pure p e) read has = let m = mentions p e read has in (sym m.0, m.1)
+own_read (Set p r e) read has = let mention = mentions p e read has in (sym mention.0, mention.1)
+own_read (Send p mention e) read has = let mention = mentions p e read has in (sym mention.0, mention.1)
+own_read (If p e t u w) read has = let mention = mentions p e read has in (sym mention.0, mention.1)
+own_read (When p e t) read has = let mention = mentions p e read has in (sym mention.0, mention.1)
+own_read (Pure p e) read has = let mention = mentions p e read has in (sym mention.0, mention.1)
 own_read (Cycle p n) read has = elim has [ ]
-own_read (Recv p m) read has = elim has [ ]
+own_read (Recv p mention) read has = elim has [ ]
 own_read (Block p t) read has = elim has [ ]
 own_read (Wait p y) read has = elim has [ ]
 own_read (Nothing p) read has = elim has [ ]
@@ -120,8 +120,8 @@ ReadInside vs a read = (ws : List Act) × (u : Term) × StandsIn vs a ws u × (s
 of_act : (vs : List Act) (a : Act) (read : Pair) (t : Term) → head t ≡ a → ((ws : List Act) (u : Term) → StandsIn vs a ws u → Stands vs t ws u)
     → (Has (inner a) read → ReadInside vs a read) → Has (plain_act a) read → ReadIn vs t read
 of_act vs a read t is inside deeper has = elim (has_either (own a) (inner a) read has) [
-  | inl k ↦ (let m = own_read a read k in (vs, t, here, subst (λ z. site z ≡ read.first) (sym is) m.0, subst (λ z. Reads z read.second) (sym is) m.1))
-  | inr k ↦ (let z = deeper k in (z.0, z.1, inside z.0 z.1 z.2, z.3, z.4))
+  | inl k ↦ (let mention = own_read a read k in (vs, t, here, subst (λ known. site known ≡ read.first) (sym is) mention.0, subst (λ known. Reads known read.second) (sym is) mention.1))
+  | inr k ↦ (let known = deeper k in (known.0, known.1, inside known.0 known.1 known.2, known.3, known.4))
 ]
 
 mutual
@@ -129,20 +129,20 @@ mutual
   reads vs (One a) read has = of_act vs a read (One a) refl (λ ws u s. in_one s) (reads_inside vs a read) has
   reads vs (Then a t) read has = elim (has_either (plain_act a) (plain t) read has) [
     | inl k ↦ of_act vs a read (Then a t) refl (λ ws u s. in_then s) (reads_inside vs a read) k
-    | inr k ↦ (let z = reads (a ∷ vs) t read k in (z.0, z.1, after_then z.2, z.3, z.4))
+    | inr k ↦ (let known = reads (a ∷ vs) t read k in (known.0, known.1, after_then known.2, known.3, known.4))
   ]
   reads vs (Both a t) read has = elim (has_either (plain_act a) (plain t) read has) [
     | inl k ↦ of_act vs a read (Both a t) refl (λ ws u s. in_both s) (reads_inside vs a read) k
-    | inr k ↦ (let z = reads (a ∷ vs) t read k in (z.0, z.1, after_both z.2, z.3, z.4))
+    | inr k ↦ (let known = reads (a ∷ vs) t read k in (known.0, known.1, after_both known.2, known.3, known.4))
   ]
 
   reads_inside : (vs : List Act) (a : Act) (read : Pair) → Has (inner a) read → ReadInside vs a read
   reads_inside vs (If p e t u w) read has = elim (has_either (plain t) (plain u) read has) [
-    | inl k ↦ (let z = reads vs t read k in (z.0, z.1, in_yes z.2, z.3, z.4))
-    | inr k ↦ (let z = reads vs u read k in (z.0, z.1, in_no z.2, z.3, z.4))
+    | inl k ↦ (let known = reads vs t read k in (known.0, known.1, in_yes known.2, known.3, known.4))
+    | inr k ↦ (let known = reads vs u read k in (known.0, known.1, in_no known.2, known.3, known.4))
   ]
-  reads_inside vs (When p e t) read has = let z = reads vs t read has in (z.0, z.1, in_when z.2, z.3, z.4)
-  reads_inside vs (Block p t) read has = let z = reads vs t read has in (z.0, z.1, in_block z.2, z.3, z.4)
+  reads_inside vs (When p e t) read has = let known = reads vs t read has in (known.0, known.1, in_when known.2, known.3, known.4)
+  reads_inside vs (Block p t) read has = let known = reads vs t read has in (known.0, known.1, in_block known.2, known.3, known.4)
   reads_inside vs (Set p r e) read has = elim has [ ]
   reads_inside vs (Send p m e) read has = elim has [ ]
   reads_inside vs (Pure p e) read has = elim has [ ]

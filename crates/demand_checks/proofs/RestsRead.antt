@@ -31,7 +31,7 @@ used scope (Nothing p) source has = elim has [ ]
 mapped : (user : ℕ) (atoms : List SourceAtom) (one : Rest) → Has (map (rest user) atoms) one → (one.user ≡ user) × Has atoms one.atom
 mapped user [] one has = elim has [ ]
 mapped user (atom ∷ atoms) one (inl is) = (ap (λ r. r.user) is, inl (ap (λ r. r.atom) is))
-mapped user (atom ∷ atoms) one (inr has) = let z = mapped user atoms one has in (z.0, inr z.1)
+mapped user (atom ∷ atoms) one (inr has) = let known = mapped user atoms one has in (known.0, inr known.1)
 
 in_map : (user : ℕ) (atoms : List SourceAtom) (atom : SourceAtom) → Has atoms atom → Has (map (rest user) atoms) (rest user atom)
 in_map user [] atom has = elim has [ ]
@@ -50,12 +50,12 @@ pub one_more : (body : Term) (user : ℕ) (before : List Rest) (atoms : List Sou
     → AreRestsTo user body before → (after : List Rest) → after ≡ before ++ map (rest user) atoms → AreRestsTo (user + 1) body after
 one_more body user before atoms numbered small are rests after is =
     record {
-      sound = λ one has. elim (has_either before (map (rest user) atoms) one (subst (λ z. Has z one) is has)) [
+      sound = λ one has. elim (has_either before (map (rest user) atoms) one (subst (λ known. Has known one) is has)) [
         | inl old ↦ rests.sound one old
-        | inr new ↦ (let z = mapped user atoms one new in subst (λ s. IsUse body s (source_of one.atom)) (sym z.0) (own_use body user atoms are (each_site body numbered user small) one.atom z.1))
+        | inr new ↦ (let known = mapped user atoms one new in subst (λ s. IsUse body s (source_of one.atom)) (sym known.0) (own_use body user atoms are (each_site body numbered user small) one.atom known.1))
       ];
       whole = λ other source below is_use. elim (cases_lt other user) [
-        | inl k ↦ (let z = rests.whole other source k is_use in (z.0, subst (λ y. Has y z.0) (sym is) (has_left before _ z.0 z.1), z.2, z.3))
+        | inl k ↦ (let known = rests.whole other source k is_use in (known.0, subst (λ y. Has y known.0) (sym is) (has_left before _ known.0 known.1), known.2, known.3))
         | inr k ↦
             (let same : other ≡ user = omega (arith, below, k) in
             let there = subst (λ s. AreAtomsAt use_sources body s atoms) (sym same ∙ sym is_use.1) are in
@@ -70,5 +70,5 @@ none_yet body = record { sound = λ one has. elim has [ ]; whole = λ user sourc
 pub all_there : (body : Term) (high : ℕ) (rests : List Rest) → Numbered [] 0 body → size body ≤ high → AreRestsTo high body rests → AreRests body rests
 all_there body high rests numbered reach are = record {
   sound = are.sound;
-  whole = λ user source is_use. are.whole user source (let z = site_below body is_use.0 is_use.2.scope numbered is_use.2.stands in omega (arith, z, reach, is_use.1)) is_use;
+  whole = λ user source is_use. are.whole user source (let known = site_below body is_use.0 is_use.2.scope numbered is_use.2.stands in omega (arith, known, reach, is_use.1)) is_use;
 }

@@ -60,9 +60,9 @@ deed_register r (Some deed) is = ap (λ d. Some (register_of d)) is
 
 pub has_setting : (deeds : List Deed) (r w : ℕ) → Has (sites_setting deeds r) w → deed_at deeds w ≡ Sets r
 has_setting deeds r w has =
-    let z = place_of r 0 (map register_of deeds) w has in
-    let same : w ≡ z.0 = omega (arith, z.1) in
-    subst (λ n. deed_at deeds n ≡ Sets r) (sym same) (register_deed r (slice_get deeds z.0) (sym (slice_get-map register_of deeds z.0) ∙ z.2))
+    let known = place_of r 0 (map register_of deeds) w has in
+    let same : w ≡ known.0 = omega (arith, known.1) in
+    subst (λ n. deed_at deeds n ≡ Sets r) (sym same) (register_deed r (slice_get deeds known.0) (sym (slice_get-map register_of deeds known.0) ∙ known.2))
 
 pub setting_has : (deeds : List Deed) (r w : ℕ) → deed_at deeds w ≡ Sets r → Has (sites_setting deeds r) w
 setting_has deeds r w is =
@@ -88,9 +88,9 @@ deed_port m (Some deed) (inr is) = ap (λ d. Some (port_of d)) is
 
 pub has_on : (deeds : List Deed) (m w : ℕ) → Has (sites_on deeds m) w → IsOn (deed_at deeds w) m
 has_on deeds m w has =
-    let z = place_of m 0 (map port_of deeds) w has in
-    let same : w ≡ z.0 = omega (arith, z.1) in
-    subst (λ n. IsOn (deed_at deeds n) m) (sym same) (port_deed m (slice_get deeds z.0) (sym (slice_get-map port_of deeds z.0) ∙ z.2))
+    let known = place_of m 0 (map port_of deeds) w has in
+    let same : w ≡ known.0 = omega (arith, known.1) in
+    subst (λ n. IsOn (deed_at deeds n) m) (sym same) (port_deed m (slice_get deeds known.0) (sym (slice_get-map port_of deeds known.0) ∙ known.2))
 
 pub on_has : (deeds : List Deed) (m w : ℕ) → IsOn (deed_at deeds w) m → Has (sites_on deeds m) w
 on_has deeds m w is =

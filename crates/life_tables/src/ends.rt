@@ -34,7 +34,8 @@ pub fn port_ends<'a>(
 ) -> Result<&'a [End], AllocError>
     requires { (widths : Widths) → IsTwice (term_of widths thread.now) elab.now }
     ensures { IfOk result (λ ends. (widths : Widths) → endings_of ends.now ≡
-        endings (term_of widths thread.now) (node_of (term_of widths thread.now)) (life_of (process_in proc.now) port)) }
+        endings (term_of widths thread.now) (node_of (term_of widths thread.now))
+        (life_of (process_in proc.now) port)) }
 {
     if port as usize >= proc.ports.len() {
         return Ok(&[]);

@@ -67,9 +67,9 @@ both_listed judge is proc j same_proc same_number rests reads_from choices_from 
     (subst (λ n. AreElsewhere judge.proc.now n others) (sym same_number) (subst (λ q. AreElsewhere q j others) (sym same_proc) elsewhere)) in
     let reads_are = reads_of judge is reads_from (subst (λ r. AreRests (body_at judge) r) (sym reads_same) all) others_seen here reads reads_told in
     let choices_are = choices_of judge is choices_from (subst (λ r. AreRests (body_at judge) r) (sym choices_same) all) choices choices_told in
-    let p = process_at judge in
+    let process = process_at judge in
     let body = body_at judge in
-    let start : AreViolations p judge.number body [] none = subst (λ v. AreViolations p judge.number body [] v) (sym empty) (no_rules p judge.number body) in
-    let listed = second p judge.number body (rule.V7 ∷ []) (first p judge.number body [] start reads_are none_earlier) choices_are reads_earlier in
+    let start : AreViolations process judge.number body [] none = subst (λ v. AreViolations process judge.number body [] v) (sym empty) (no_rules process judge.number body) in
+    let listed = second process judge.number body (rule.V7 ∷ []) (first process judge.number body [] start reads_are none_earlier) choices_are reads_earlier in
     subst (λ n. AreViolations (process_in proc) n (body_of proc n) (rule.V7 ∷ rule.V8 ∷ []) two) same_number
     (subst (λ q. AreViolations (process_in q) judge.number (body_of q judge.number) (rule.V7 ∷ rule.V8 ∷ []) two) same_proc listed)

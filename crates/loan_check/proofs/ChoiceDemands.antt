@@ -42,15 +42,15 @@ module _ (p : Process) (j : ℕ) (body : Term) (numbered : Numbered [] 0 body) (
   claimed : (first second : ℕ) (claim : Claim) → Demands p j body rule.V8 first second claim
       → (rest : Rest) × Has rests rest × ((pair_of rest).first ≡ first) × ((pair_of rest).second ≡ second) × Has (choice_claims deeds rest) claim
   claimed first second claim demand =
-      let z = choice_demand p j body rule.V8 first second claim demand refl in
-      let there = all.whole first (ChoiceOf second) z.0 in
+      let known = choice_demand p j body rule.V8 first second claim demand refl in
+      let there = all.whole first (ChoiceOf second) known.0 in
       let atom = choice_atom there.0.atom second there.3 in (
         there.0,
         there.1,
         there.2,
         ap site_of atom,
         subst (λ a. Has (choice_claims_of deeds there.0.user a) claim) (sym atom)
-            (subst (λ n. Has (choice_claims_of deeds n (Choice second)) claim) (sym there.2) (inl (z.1 ∙ sym (use_is first second z.0)))),
+            (subst (λ n. Has (choice_claims_of deeds n (Choice second)) claim) (sym there.2) (inl (known.1 ∙ sym (use_is first second known.0)))),
       )
 
   pub choices_found : (answers : Answers) → Tell p body answers → AreFound p j body rule.V8 (unshown pair_of (choice_claims deeds) answers rests)

@@ -33,7 +33,7 @@ has_among register (other ∷ rest) has = go (other == register) refl has (λ l.
   where
     go : (b : Bool) → (other == register) ≡ b → Has (other ∷ rest) register → (Has rest register → is_among register rest ≡ true) → (b || is_among register rest) ≡ true
     go true same there deeper = refl
-    go false same (inl is) deeper = absurd (let z : (other == other) ≡ false = ap (λ n. other == n) (sym is) ∙ same in grind (arith, z))
+    go false same (inl is) deeper = absurd (let known : (other == other) ≡ false = ap (λ n. other == n) (sym is) ∙ same in grind (arith, known))
     go false same (inr there) deeper = deeper there
 
 -- with one register more
@@ -90,12 +90,12 @@ all_there (deed ∷ rest) register registers (inr has) = all_there rest register
 -- the thread of a number is that of the code's term
 is_thread : (f : CoreTerm → Thread) (cores : List CoreTerm) (i : ℕ) (core : CoreTerm) → slice_get cores i ≡ Some core → IsThread (map f cores) i (f core)
 is_thread f [] i core at = absurd cc
-is_thread f (first ∷ cores) zero core at = let z : first ≡ core = cc in ap f z
+is_thread f (first ∷ cores) zero core at = let known : first ≡ core = cc in ap f known
 is_thread f (first ∷ cores) (suc i) core at = is_thread f cores i core at
 
 thread_is : (f : CoreTerm → Thread) (cores : List CoreTerm) (i : ℕ) (core : CoreTerm) (thread : Thread) → slice_get cores i ≡ Some core → IsThread (map f cores) i thread → f core ≡ thread
 thread_is f [] i core thread at is = elim is [ ]
-thread_is f (first ∷ cores) zero core thread at is = let z : first ≡ core = cc in ap f (sym z) ∙ is
+thread_is f (first ∷ cores) zero core thread at is = let known : first ≡ core = cc in ap f (sym known) ∙ is
 thread_is f (first ∷ cores) (suc i) core thread at is = thread_is f cores i core thread at is
 
 module _ (proc : CoreProc) (j : ℕ) where
@@ -111,12 +111,12 @@ module _ (proc : CoreProc) (j : ℕ) where
   pub other_thread : (i : ℕ) (core : CoreTerm) (deeds : List Deed) (old new : List ℕ) → slice_get proc.threads.items i ≡ Some core → (i ≡ j → ⊥)
       → Numbered [] 0 (term_of (widths_in proc) core) → AreDeeds (term_of (widths_in proc) core) deeds → new ≡ with_sets deeds old
       → AreElsewhereTo i proc j old → AreElsewhereTo (i + 1) proc j new
-  other_thread i core deeds old new at differs numbered deeds_are is are = subst (λ z. AreElsewhereTo (i + 1) proc j z) (sym is) (record {
+  other_thread i core deeds old new at differs numbered deeds_are is are = subst (λ known. AreElsewhereTo (i + 1) proc j known) (sym is) (record {
     sound = λ register has. elim (with_all deeds register old has) [
       | inl k ↦ are.sound register k
       | inr k ↦
-          (let z = place_in deeds (Sets register) k in
-          (i, z.0, thread_of (widths_in proc) core, is_thread (thread_of (widths_in proc)) proc.threads.items i core at, differs, deed_set (term_of (widths_in proc) core) deeds deeds_are numbered z.0 register (ap deed_or z.1)))
+          (let known = place_in deeds (Sets register) k in
+          (i, known.0, thread_of (widths_in proc) core, is_thread (thread_of (widths_in proc)) proc.threads.items i core at, differs, deed_set (term_of (widths_in proc) core) deeds deeds_are numbered known.0 register (ap deed_or known.1)))
     ];
     whole = λ register set below. elim (cases_lt set.0 i) [
       | inl k ↦ all_kept deeds register old (are.whole register set k)
@@ -139,10 +139,10 @@ module _ (proc : CoreProc) (j : ℕ) where
   pub all_threads : (high : ℕ) (registers : List ℕ) → length proc.threads.items ≤ high → AreElsewhereTo high proc j registers → AreElsewhere proc j registers
   all_threads high registers reach are = record {
     sound = are.sound;
-    whole = λ register set. are.whole register set (let z = below_count (thread_of (widths_in proc)) proc.threads.items set.0 set.2 set.3 in omega (arith, z, reach));
+    whole = λ register set. are.whole register set (let known = below_count (thread_of (widths_in proc)) proc.threads.items set.0 set.2 set.3 in omega (arith, known, reach));
   }
     where
       below_count : (f : CoreTerm → Thread) (cores : List CoreTerm) (i : ℕ) (thread : Thread) → IsThread (map f cores) i thread → i < length cores
       below_count f [] i thread is = elim is [ ]
       below_count f (first ∷ cores) zero thread is = omega arith
-      below_count f (first ∷ cores) (suc i) thread is = let z = below_count f cores i thread is in omega (arith, z)
+      below_count f (first ∷ cores) (suc i) thread is = let known = below_count f cores i thread is in omega (arith, known)

@@ -72,10 +72,10 @@ module _ (proc : CoreProc) (j : ℕ) (body : Term) (numbered : Numbered [] 0 bod
   by_set : (user q r : ℕ) (claim : Claim) → IsUse body user (RegOf q r) → Has (map (here_claim deeds user q) (sites_setting deeds r)) claim
       → Demands (process_in proc) j body rule.V7 user q claim
   by_set user q r claim is_use has =
-      let z = mapped (here_claim deeds user q) (sites_setting deeds r) claim has in
-      let written = deed_set body deeds are numbered z.0 r (has_setting deeds r z.0 z.1) in
-      subst (λ c. Demands (process_in proc) j body rule.V7 user q c) (sym (z.2 ∙ here_is user q r z.0 is_use))
-      (subst (λ n. Demands (process_in proc) j body rule.V7 n q (set_claim (use_by (head is_use.0)) q z.0)) is_use.1 (set_here is_use.0 q r z.0 is_use.2 written))
+      let known = mapped (here_claim deeds user q) (sites_setting deeds r) claim has in
+      let written = deed_set body deeds are numbered known.0 r (has_setting deeds r known.0 known.1) in
+      subst (λ c. Demands (process_in proc) j body rule.V7 user q c) (sym (known.2 ∙ here_is user q r known.0 is_use))
+      (subst (λ n. Demands (process_in proc) j body rule.V7 n q (set_claim (use_by (head is_use.0)) q known.0)) is_use.1 (set_here is_use.0 q r known.0 is_use.2 written))
 
   demanded : (user : ℕ) (atom : SourceAtom) (claim : Claim) → IsUse body user (source_of atom) → Has (register_claims_of others deeds user atom) claim
       → Demands (process_in proc) j body rule.V7 user (site_of atom) claim

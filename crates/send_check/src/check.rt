@@ -46,12 +46,13 @@ fn add_rule(
 ) -> Result<(), AllocError>
     requires judge { IsJudge judge.now }
     requires rule { IsOwn rule }
-    ensures { (rules : List RuleSeen) →
+    ensures { IfOk result (λ _. (rules : List RuleSeen) →
         AreViolations (process_at judge.now) judge.now.number (body_at judge.now) rules violations.old.items →
-        AllEarlier rules rule → IfOk result (λ _.
+        AllEarlier rules rule →
         AreViolations (process_at judge.now) judge.now.number (body_at judge.now) (rules ++ rule ∷ [])
         violations.new.items) }
 {
     let mut pairs = pairs_of(alloc, judge, rule)?;
-    list_rule(rule, &mut pairs, violations)
+    list_rule(rule, &mut pairs, violations)?;
+    Ok(())
 }

@@ -12,7 +12,8 @@ use demand_checks::{Deed, Judge, Place};
 pub fn clash(judge: &Judge<'_>, rule: Rule, first: u32, second: u32) -> bool
     requires judge { IsJudge judge.now }
     requires rule { IsOwn rule }
-    ensures { (answers : Answers) → TellOf judge.now answers → result ≡ clash answers judge.now.deeds.items rule first second }
+    ensures { (answers : Answers) → TellOf judge.now answers →
+        result ≡ clash answers judge.now.deeds.items rule first second }
 {
     let one = judge.deed(first);
     let other = judge.deed(second);

@@ -20,7 +20,8 @@ IsPlace procs i j site at =
 pub record IsRejection (procs : List CoreProc) (rule : Rule) (first second : ℕ) : Type 0 where
   pub violation : Broken
   pub is_first : IsFirstBroken (file_of procs) violation
-  pub heads : (list : List Broken) → IsViolations (file_of procs) list → (others : List Broken) × (list ≡ violation ∷ others)
+  pub heads : (list : List Broken) → IsViolations (file_of procs) list
+      → (others : List Broken) × (list ≡ violation ∷ others)
   pub rule_is : rule ≡ violation.rule
   pub first_at : IsPlace procs violation.process violation.thread violation.first first
   pub second_at : IsPlace procs violation.process violation.thread violation.second second

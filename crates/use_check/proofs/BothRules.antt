@@ -63,9 +63,9 @@ pub both_listed : (judge : Judge) → IsJudge judge → (proc : CoreProc) (j : �
 both_listed judge is proc j same_proc same_number reads reads_seen reads_all reads_same rests rests_seen rests_all rests_same made wires made_told wires_told none one two empty first second =
     let made_are = made_of judge is reads_seen (subst (λ r. AreReads (body_at judge) r) (sym reads_same) reads_all) made made_told in
     let wires_are = wires_of judge is rests_seen (subst (λ r. AreRests (body_at judge) r) (sym rests_same) rests_all) wires wires_told in
-    let p = process_at judge in
+    let process = process_at judge in
     let body = body_at judge in
-    let start : AreViolations p judge.number body [] none = subst (λ v. AreViolations p judge.number body [] v) (sym empty) (no_rules p judge.number body) in
-    let listed = second p judge.number body (rule.V2 ∷ []) (first p judge.number body [] start made_are none_earlier) wires_are made_earlier in
+    let start : AreViolations process judge.number body [] none = subst (λ v. AreViolations process judge.number body [] v) (sym empty) (no_rules process judge.number body) in
+    let listed = second process judge.number body (rule.V2 ∷ []) (first process judge.number body [] start made_are none_earlier) wires_are made_earlier in
     subst (λ n. AreViolations (process_in proc) n (body_of proc n) (rule.V2 ∷ rule.V6 ∷ []) two) same_number
     (subst (λ q. AreViolations (process_in q) judge.number (body_of q judge.number) (rule.V2 ∷ rule.V6 ∷ []) two) same_proc listed)

@@ -17,7 +17,7 @@ all_append answers (claim ∷ these) those = go (shows answers claim) (all_appen
 
 next_end : {A : Type 0} (life : List A) (i : ℕ) (end : A) → slice_get life i ≡ Some end → drop i life ≡ end ∷ drop (suc i) life
 next_end [] i end at = absurd cc
-next_end (first ∷ life) zero end at = let z : first ≡ end = cc in ap (λ e. e ∷ life) z
+next_end (first ∷ life) zero end at = let known : first ≡ end = cc in ap (λ e. e ∷ life) known
 next_end (first ∷ life) (suc i) end at = next_end life i end at
 
 module _ (answers : Answers) (deeds : List Deed) (user site : ℕ) (life : List LifeEnd) (i : ℕ) (end : LifeEnd) (at : slice_get life i ≡ Some end) (whole : Bool)

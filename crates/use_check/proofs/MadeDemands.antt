@@ -26,7 +26,7 @@ module _ (p : Process) (j : ℕ) (body : Term) (numbered : Numbered [] 0 body) (
   claimed : (first second : ℕ) (claim : Claim) → Demands p j body rule.V2 first second claim
       → (read : Pair) × Has reads read × ((own_pair read).first ≡ first) × ((own_pair read).second ≡ second) × Has (made_claims read) claim
   claimed first second claim demand =
-      let z = made_demand p j body rule.V2 first second claim demand refl in (pair first second, all.whole first second z.0, refl, refl, inl z.1)
+      let known = made_demand p j body rule.V2 first second claim demand refl in (pair first second, all.whole first second known.0, refl, refl, inl known.1)
 
   pub made_found : (answers : Answers) → Tell p body answers → AreFound p j body rule.V2 (unshown own_pair made_claims answers reads)
   made_found answers tell =

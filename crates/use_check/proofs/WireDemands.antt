@@ -78,7 +78,7 @@ some_end : (deeds : List Deed) (user q : ℕ) (life : List LifeEnd) (claim : Cla
 some_end deeds user q [] claim has = elim has [ ]
 some_end deeds user q (end ∷ life) claim has = elim (has_either (end_claims deeds user q end) _ claim has) [
   | inl k ↦ (end, inl refl, k)
-  | inr k ↦ (let z = some_end deeds user q life claim k in (z.0, inr z.1, z.2))
+  | inr k ↦ (let known = some_end deeds user q life claim k in (known.0, inr known.1, known.2))
 ]
 
 of_end : (deeds : List Deed) (user q : ℕ) (life : List LifeEnd) (end : LifeEnd) (claim : Claim) → Has life end → Has (end_claims deeds user q end) claim → Has (ends_claims deeds user q life) claim
@@ -94,8 +94,8 @@ module _ (p : Process) (j : ℕ) (body : Term) (numbered : Numbered [] 0 body) (
   until_is user q w is_use = same_claim (use_is user q is_use (pos 0) (end_of q)) (use_is user q is_use (pos 0) (end_of w)) (use_is user q is_use (pos 0) (next_end_of w))
 
   on_act : (w n : ℕ) → IsOn (deed_at deeds w) n → ActOn body w n
-  on_act w n (inl is) = let z = deed_send body deeds are numbered w n is in (z.0, z.1, z.2, z.3, sent_on (head z.1) n z.4)
-  on_act w n (inr is) = let z = deed_receive body deeds are numbered w n is in (z.0, z.1, z.2, z.3, received_on (head z.1) n z.4)
+  on_act w n (inl is) = let known = deed_send body deeds are numbered w n is in (known.0, known.1, known.2, known.3, sent_on (head known.1) n known.4)
+  on_act w n (inr is) = let known = deed_receive body deeds are numbered w n is in (known.0, known.1, known.2, known.3, received_on (head known.1) n known.4)
 
   act_on : (w n : ℕ) → ActOn body w n → IsOn (deed_at deeds w) n
   act_on w n has = subst (λ d. IsOn d n) (sym (deed_stands body deeds are has.0 has.1 has.2 w has.3)) (on_deed (head has.1) n has.4)
@@ -107,17 +107,17 @@ module _ (p : Process) (j : ℕ) (body : Term) (numbered : Numbered [] 0 body) (
       subst (λ c. Demands p j body rule.V6 user q c) (sym (is ∙ use_is user q is_use (pos 1 -ℤ pos k) (end_of q)))
       (subst (λ n. Demands p j body rule.V6 n q (use_by (head is_use.0) (pos 1 -ℤ pos k) (end_of q))) is_use.1 (wire_within is_use.0 q m k is_use.2 received has))
   by_end user q m claim is_use received (Until n) has claims =
-      let z = mapped (until_claim deeds user q) (sites_on deeds n) claim claims in
-      let on = on_act z.0 n (has_on deeds n z.0 z.1) in
-      subst (λ c. Demands p j body rule.V6 user q c) (sym (z.2 ∙ until_is user q z.0 is_use))
-      (subst (λ s. Demands p j body rule.V6 s q (until_of (use_by (head is_use.0)) q z.0)) is_use.1 (wire_until is_use.0 q m n z.0 is_use.2 received has on))
+      let known = mapped (until_claim deeds user q) (sites_on deeds n) claim claims in
+      let on = on_act known.0 n (has_on deeds n known.0 known.1) in
+      subst (λ c. Demands p j body rule.V6 user q c) (sym (known.2 ∙ until_is user q known.0 is_use))
+      (subst (λ s. Demands p j body rule.V6 s q (until_of (use_by (head is_use.0)) q known.0)) is_use.1 (wire_until is_use.0 q m n known.0 is_use.2 received has on))
 
   by_deed : (user q : ℕ) (claim : Claim) → IsUse body user (WireOf q) → (one : Deed) → deed_at deeds q ≡ one → Has (received_claims p deeds user q one) claim → Demands p j body rule.V6 user q claim
   by_deed user q claim is_use (deed.Sends m) is has = elim has [ ]
   by_deed user q claim is_use (deed.Sets r) is has = elim has [ ]
   by_deed user q claim is_use deed.Other is has = elim has [ ]
   by_deed user q claim is_use (deed.Receives m) is has =
-      let z = some_end deeds user q (life_of p m) claim has in by_end user q m claim is_use (deed_receive body deeds are numbered q m is) z.0 z.1 z.2
+      let known = some_end deeds user q (life_of p m) claim has in by_end user q m claim is_use (deed_receive body deeds are numbered q m is) known.0 known.1 known.2
 
   demanded : (user : ℕ) (atom : SourceAtom) (claim : Claim) → IsUse body user (source_of atom) → Has (wire_claims_of p deeds user atom) claim → Demands p j body rule.V6 user (site_of atom) claim
   demanded user (Wire q) claim is_use has = by_deed user q claim is_use (deed_at deeds q) refl has

@@ -17,15 +17,15 @@ of-requires c =
 
 pub end_lag-requires : goal.end_lag-requires
 end_lag-requires c =
-    let b = is_inside _ _ _ _ c.in-Sends-Some.ensures'.inside c.in-Sends-Some.ensures'.outside in
+    let to_is = is_inside _ _ _ _ c.in-Sends-Some.ensures'.inside c.in-Sends-Some.ensures'.outside in
     table_wide c.args.self.now c.requires c.args.send c.in-Sends-Some.field-0-0 _
     (deed_send (body_at c.args.self.now) c.args.self.now.deeds.items c.requires.deeds c.requires.numbered c.args.send c.in-Sends-Some.field-0-0 (sym c.in-Sends-Some.ensures))
-    c.of.ensures c.args.b c.in-Sends-Some.to b.0 b.1
+    c.of.ensures c.args.b c.in-Sends-Some.to to_is.0 to_is.1
 
 pub returns-in-Sends-Some : goal.returns-in-Sends-Some
 returns-in-Sends-Some c =
-    let b = is_inside _ _ _ _ c.in-Sends-Some.ensures'.inside c.in-Sends-Some.ensures'.outside in
+    let to_is = is_inside _ _ _ _ c.in-Sends-Some.ensures'.inside c.in-Sends-Some.ensures'.outside in
     last_answer c.args.self.now c.requires c.args.send c.in-Sends-Some.field-0-0 _ c.args.b c.args.d c.in-Sends-Some.to c.end_lag.result c.admits.result
     (deed_send (body_at c.args.self.now) c.args.self.now.deeds.items c.requires.deeds c.requires.numbered c.args.send c.in-Sends-Some.field-0-0 (sym c.in-Sends-Some.ensures))
-    c.of.ensures b.0 b.1 c.end_lag.ensures.largest
+    c.of.ensures to_is.0 to_is.1 c.end_lag.ensures.largest
     (subst (λ z. Decides c.admits.result (Admits (lag_of c.end_lag.result) z)) (to_z-of_z w32 c.args.d c.ranges.d) c.admits.ensures)

@@ -10,17 +10,17 @@ use Rattle.demand_checks.proofs.judge.Judge.precedes.Goals as goal
 
 pub lag-requires-clause-first : goal.lag-requires-clause-first
 lag-requires-clause-first c =
-    let a = is_inside _ _ _ _ c.in-Some-Some.ensures.inside c.in-Some-Some.ensures.outside in node_small c.args.self.now c.requires c.args.a c.in-Some-Some.from a.0 a.1
+    let from_is = is_inside _ _ _ _ c.in-Some-Some.ensures.inside c.in-Some-Some.ensures.outside in node_small c.args.self.now c.requires c.args.a c.in-Some-Some.from from_is.0 from_is.1
 
 pub lag-requires-clause-second : goal.lag-requires-clause-second
 lag-requires-clause-second c =
-    let b = is_inside _ _ _ _ c.in-Some-Some.ensures'.inside c.in-Some-Some.ensures'.outside in node_small c.args.self.now c.requires c.args.b c.in-Some-Some.to b.0 b.1
+    let to_is = is_inside _ _ _ _ c.in-Some-Some.ensures'.inside c.in-Some-Some.ensures'.outside in node_small c.args.self.now c.requires c.args.b c.in-Some-Some.to to_is.0 to_is.1
 
 pub returns-in-Some-Some : goal.returns-in-Some-Some
 returns-in-Some-Some c =
-    let a = is_inside _ _ _ _ c.in-Some-Some.ensures.inside c.in-Some-Some.ensures.outside in
-    let b = is_inside _ _ _ _ c.in-Some-Some.ensures'.inside c.in-Some-Some.ensures'.outside in
-    order_answer c.args.self.now c.requires c.args.a c.args.b c.args.d c.in-Some-Some.from c.in-Some-Some.to c.lag.result c.admits.result a.0 b.0 a.1 b.1 c.lag.ensures.largest
+    let from_is = is_inside _ _ _ _ c.in-Some-Some.ensures.inside c.in-Some-Some.ensures.outside in
+    let to_is = is_inside _ _ _ _ c.in-Some-Some.ensures'.inside c.in-Some-Some.ensures'.outside in
+    order_answer c.args.self.now c.requires c.args.a c.args.b c.args.d c.in-Some-Some.from c.in-Some-Some.to c.lag.result c.admits.result from_is.0 to_is.0 from_is.1 to_is.1 c.lag.ensures.largest
     (subst (λ z. Decides c.admits.result (Admits (lag_of c.lag.result) z)) (to_z-of_z w32 c.args.d c.ranges.d) c.admits.ensures)
 
 pub returns-in_default : goal.returns-in_default
