@@ -1,0 +1,9 @@
+//! The log of a process: its source run on rows, put line by line up to the first broken promise of its partners.
+#![tactic(auto)]
+
+mod cycle;
+mod log;
+
+pub use anvil_io::{Sink, SinkFault};
+pub use core_term::{CoreProc, Row};
+pub use log::{Broken, LogErr, put_log};
