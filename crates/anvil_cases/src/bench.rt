@@ -33,12 +33,24 @@ pub fn run(
     file: &[u8],
     faults: Faults,
 ) -> Result<Ended, AllocError> {
+    run_on(alloc, words, file, b"", faults)
+}
+
+/// The same with a stimulus under the name `s`.
+pub fn run_on(
+    alloc: Global,
+    words: &[&str],
+    file: &[u8],
+    stimulus: &[u8],
+    faults: Faults,
+) -> Result<Ended, AllocError> {
     let mut list = Vec::new(alloc);
     for word in words {
         list.push(String::from_str(alloc, word)?)?;
     }
     let mut files = Vec::new(alloc);
     files.push((String::from_str(alloc, "f")?, Vec::from_slice(alloc, file)?))?;
+    files.push((String::from_str(alloc, "s")?, Vec::from_slice(alloc, stimulus)?))?;
     let mut shelf = MemShelf::new(files, Vec::from_slice(alloc, faults.loads)?);
     let mut out = MemSink::new(alloc, 65536, Vec::from_slice(alloc, faults.outs)?)?;
     let mut err = MemSink::new(alloc, 1024, Vec::from_slice(alloc, faults.errs)?)?;

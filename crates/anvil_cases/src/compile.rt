@@ -6,7 +6,7 @@ use std::test::Fail;
 
 const COUNTER: &[u8] = b"proc c() { reg a : logic[8]; loop { set a := *a + 8'd1 >> cycle 2 } }";
 
-const USAGE: &[u8] = b"usage: anvil compile FILE\n";
+const USAGE: &[u8] = b"usage: anvil compile FILE | run FILE PROC STIM\n";
 
 /// The module of `COUNTER`, line by line.
 const MODULE: [&[u8]; 40] = [
@@ -75,7 +75,7 @@ fn the_counter_is_compiled(rt: HostRuntime) -> Result<(), Fail> {
 
 #[test]
 fn words_without_a_form(rt: HostRuntime) -> Result<(), Fail> {
-    let lists: [&[&str]; 10] = [
+    let lists: [&[&str]; 13] = [
         &["check", "x", "y"],
         &[],
         &["help"],
@@ -86,6 +86,9 @@ fn words_without_a_form(rt: HostRuntime) -> Result<(), Fail> {
         &["compile", ""],
         &["compile", "f", "f"],
         &["Compile", "f"],
+        &["run", "f", "c"],
+        &["run", "f", "-c", "s"],
+        &["run", "f", "c", "s", "s"],
     ];
     for words in lists.iter() {
         let refused = run(rt.alloc(), words, COUNTER, NO_FAULTS)?;

@@ -9,3 +9,5 @@ mod compile;
 mod names;
 #[cfg(test)]
 mod refused;
+#[cfg(test)]
+mod run;

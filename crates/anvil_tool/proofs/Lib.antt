@@ -4,10 +4,15 @@ pub mod Described
 pub mod Checks
 pub mod Refusals
 pub mod OneRefusal
+-- The process of a name, and the rows of a stimulus.
+pub mod Processes
+pub mod Stimuli
+pub mod Runs
 -- The text of the modules.
 pub mod Written
 -- The form that loads one file; that at most one answer has its cause.
 pub mod OneFile
+pub mod OneRun
 pub mod OneAnswer
 -- Examples.
 pub mod Examples

@@ -6,18 +6,21 @@
 use Rattle.std.proofs.Common.{◌≡◌, ℕ, ◌<◌, ◌≤◌, List, [], ◌∷◌, ◌++◌, length, Option, Some, None, refl, sym, ap, ◌∙◌, subst, arith}
 use Rattle.anvil_tool.specs.declared.refusal.Refusal.{Refusal}
 use Rattle.anvil_tool.specs.declared.status.Status.{Status}
-use Rattle.anvil_tool.specs.declared.status.Status.TheVariants.{Done, Refused, Usage, TooLong}
-use Rattle.anvil_tool.specs.Form.{Form, Command, compile, Load, loads_of, usage_line}
+use Rattle.anvil_tool.specs.declared.status.Status.TheVariants.{Done, Refused, Usage, TooLong, Breach}
+use Rattle.anvil_tool.specs.Form.{Form, Command, compile, run, Load, loads_of, usage_line}
 use Rattle.anvil_tool.specs.Refused.{refusal_line}
-use Rattle.anvil_tool.specs.Stages.{Stages, stages_of, stages_by}
+use Rattle.anvil_tool.specs.Stages.{Stages, stages_of, stages_by, name_in, run_refuses, run_goes_on, run_breaks}
 use Rattle.anvil_tool.specs.Answer.{Tells, Exceeds, Leads, here, on, too_long_line}
-use Rattle.anvil_tool.specs.Laws.{HasCause, of_words, of_length, of_stage, of_text, HasOneAnswer}
+use Rattle.anvil_tool.specs.Laws.{HasCause, of_words, of_length, of_stage, of_text, of_breach, HasOneAnswer}
 use Rattle.anvil_tool.proofs.OneRefusal.{refused_once, plain_or_refused}
+use Rattle.anvil_tool.proofs.Processes.{process_refused_once, process_or_refused}
+use Rattle.anvil_tool.proofs.Runs.{text_refused_once, run_or_refused, broken_once}
 
--- a stage has one refusal at most, and does not go on where it has one
+-- a stage has one refusal at most, and does not go on where it has one; and a text stops early in one way
 pub record AreExact (stages : Stages) : Type 0 where
   pub once : (loaded : List (List ℕ)) (one other : Refusal) → stages.refuses loaded one → stages.refuses loaded other → one ≡ other
   pub apart : (loaded : List (List ℕ)) (refusal : Refusal) → stages.refuses loaded refusal → stages.goes_on loaded → ⊥
+  pub one_break : (loaded : List (List ℕ)) (text other line said : List ℕ) → stages.breaks loaded text line → stages.breaks loaded other said → (text ≡ other) × (line ≡ said)
 
 compile_once : (operands loaded : List (List ℕ)) (one other : Refusal) → (stages_by compile operands).refuses loaded one → (stages_by compile operands).refuses loaded other → one ≡ other
 compile_once operands [] one other first second = absurd first
@@ -29,15 +32,35 @@ compile_apart operands [] refusal first plain = first
 compile_apart operands (file ∷ []) refusal first plain = plain_or_refused file refusal first plain
 compile_apart operands (file ∷ next ∷ more) refusal first plain = first
 
+run_once : (name : List ℕ) (loaded : List (List ℕ)) (one other : Refusal) → run_refuses name loaded one → run_refuses name loaded other → one ≡ other
+run_once name [] one other first second = absurd first
+run_once name (file ∷ []) one other first second = process_refused_once file name one other first second
+run_once name (file ∷ stimulus ∷ []) one other first second = text_refused_once file name stimulus one other first second
+run_once name (file ∷ stimulus ∷ next ∷ more) one other first second = absurd first
+
+run_apart : (name : List ℕ) (loaded : List (List ℕ)) (refusal : Refusal) → run_refuses name loaded refusal → run_goes_on name loaded → ⊥
+run_apart name [] refusal first goes = first
+run_apart name (file ∷ []) refusal first goes = process_or_refused file name refusal first goes
+run_apart name (file ∷ stimulus ∷ []) refusal first goes = run_or_refused file name stimulus refusal first goes
+run_apart name (file ∷ stimulus ∷ next ∷ more) refusal first goes = first
+
+run_breaks_once : (name : List ℕ) (loaded : List (List ℕ)) (text other line said : List ℕ) → run_breaks name loaded text line → run_breaks name loaded other said → (text ≡ other) × (line ≡ said)
+run_breaks_once name [] text other line said first second = absurd first
+run_breaks_once name (file ∷ []) text other line said first second = absurd first
+run_breaks_once name (file ∷ stimulus ∷ []) text other line said first second = broken_once file name stimulus text other line said first second
+run_breaks_once name (file ∷ stimulus ∷ next ∷ more) text other line said first second = absurd first
+
 exact : (command : Command) (operands : List (List ℕ)) → AreExact (stages_by command operands)
-exact compile operands = record { once = compile_once operands; apart = compile_apart operands }
+exact compile operands = record { once = compile_once operands; apart = compile_apart operands; one_break = λ loaded text other line said first second. absurd first }
+exact run operands = record { once = run_once (name_in operands); apart = run_apart (name_in operands); one_break = run_breaks_once (name_in operands) }
 
 -- where a way ends: refused, too long, or behind the last stage
 data Stops (told : List ℕ → Option (List ℕ)) (stages : Stages) : List (List ℕ) → List Load → Status → List ℕ → Type 0 where
   refuses : (loaded : List (List ℕ)) (rest : List Load) (refusal : Refusal) → stages.refuses loaded refusal → Stops told stages loaded rest Refused (refusal_line refusal)
   exceeds : (loaded : List (List ℕ)) (load : Load) (rest : List Load) → stages.goes_on loaded → Exceeds (told load.name) load.limit
       → Stops told stages loaded (load ∷ rest) TooLong (too_long_line load.name)
-  ends : (loaded : List (List ℕ)) → stages.goes_on loaded → Stops told stages loaded [] Done []
+  ends : (loaded : List (List ℕ)) → stages.goes_on loaded → ((text line : List ℕ) → stages.breaks loaded text line → ⊥) → Stops told stages loaded [] Done []
+  breaks : (loaded : List (List ℕ)) (text line : List ℕ) → stages.goes_on loaded → stages.breaks loaded text line → Stops told stages loaded [] Breach line
 
 module _ (told : List ℕ → Option (List ℕ)) (stages : Stages) (sound : AreExact stages) where
   -- one stage stops in one way
@@ -45,11 +68,16 @@ module _ (told : List ℕ → Option (List ℕ)) (stages : Stages) (sound : AreE
       → Stops told stages loaded rest other said → (one ≡ other) × (line ≡ said)
   stops_once loaded rest one other line said (refuses a b refusal first) (refuses c d found second) = (refl, ap refusal_line (sound.once loaded refusal found first second))
   stops_once loaded rest one other line said (refuses a b refusal first) (exceeds c load d went past) = absurd (sound.apart loaded refusal first went)
-  stops_once loaded rest one other line said (refuses a b refusal first) (ends c went) = absurd (sound.apart loaded refusal first went)
+  stops_once loaded rest one other line said (refuses a b refusal first) (ends c went whole) = absurd (sound.apart loaded refusal first went)
+  stops_once loaded rest one other line said (refuses a b refusal first) (breaks c text told_line went stops) = absurd (sound.apart loaded refusal first went)
   stops_once loaded rest one other line said (exceeds a load b went past) (refuses c d found second) = absurd (sound.apart loaded found second went)
   stops_once loaded rest one other line said (exceeds a load b went past) (exceeds c next d went_too past_too) = (refl, refl)
-  stops_once loaded rest one other line said (ends a went) (refuses c d found second) = absurd (sound.apart loaded found second went)
-  stops_once loaded rest one other line said (ends a went) (ends c went_too) = (refl, refl)
+  stops_once loaded rest one other line said (ends a went whole) (refuses c d found second) = absurd (sound.apart loaded found second went)
+  stops_once loaded rest one other line said (ends a went whole) (ends c went_too whole_too) = (refl, refl)
+  stops_once loaded rest one other line said (ends a went whole) (breaks c text told_line went_too stops) = absurd (whole text told_line stops)
+  stops_once loaded rest one other line said (breaks a text told_line went stops) (refuses c d found second) = absurd (sound.apart loaded found second went)
+  stops_once loaded rest one other line said (breaks a text told_line went stops) (ends c went_too whole) = absurd (whole text told_line stops)
+  stops_once loaded rest one other line said (breaks a text told_line went stops) (breaks c text_too line_too went_too stops_too) = (refl, (sound.one_break loaded text text_too told_line line_too stops stops_too).1)
 
   told_past : (told_bytes : Option (List ℕ)) (limit : ℕ) (bytes : List ℕ) → told_bytes ≡ Some bytes → length bytes ≤ limit → Exceeds told_bytes limit → ⊥
   told_past told_bytes limit bytes is within past = let long : limit < length bytes = subst (λ it. Exceeds it limit) is past in omega (arith, long, within)
@@ -96,11 +124,17 @@ way told form status line (of_stage asked refusal first) = record {
   leads = first.reached;
   stops = refuses first.loaded first.rest refusal first.refuses;
 }
-way told form status line (of_text asked loaded passes) = record {
+way told form status line (of_text asked loaded whole) = record {
   loaded = loaded;
   rest = [];
-  leads = passes.reached;
-  stops = ends loaded passes.goes_on;
+  leads = whole.passes.reached;
+  stops = ends loaded whole.passes.goes_on whole.unbroken;
+}
+way told form status line (of_breach asked text said broken) = record {
+  loaded = broken.loaded;
+  rest = [];
+  leads = broken.passes.reached;
+  stops = breaks broken.loaded text said broken.passes.goes_on broken.breaks;
 }
 
 without_form : (told : List ℕ → Option (List ℕ)) (status : Status) (line : List ℕ) → HasCause told None status line → (status ≡ Usage) × (line ≡ usage_line)

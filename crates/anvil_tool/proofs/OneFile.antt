@@ -116,7 +116,7 @@ out_failed told file bytes text old new before now given output part cause = rec
   loaded = bytes ∷ [];
   passes = passes told file bytes text given output;
   text = text;
-  writes = output;
+  begins = output;
   part = part;
   cause = cause;
 }

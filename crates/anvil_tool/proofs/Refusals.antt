@@ -107,3 +107,16 @@ pub refused_by_builder : {T : Type 0} (bytes : List ℕ) (tree : File) (result :
     → IfErr result (λ refusal. refusal ≢ NoMemory → (refusal ≡ not_built) × IsNotPlain tree) → IfErr result (λ refusal. refusal ≢ NoMemory → IsRefused bytes refusal)
 refused_by_builder bytes tree (Ok value) text told = tt
 refused_by_builder bytes tree (Err refusal) text told = λ not_memory. let (is, not_plain) = told not_memory in rw is (by_builder tree text not_plain)
+
+-- The same where the call that makes the core file ends.
+
+pub told_by_core : {T : Type 0} (bytes : List ℕ) (tree : File) (result : Result T Refusal) → IsTheFile bytes tree
+    → ((refusal : Refusal) → IsUnchecked tree refusal → MatchResult result (λ _. ⊥) (λ found. (found ≡ refusal) ⊎ (found ≡ NoMemory)))
+    → (refusal : Refusal) → IsFileRefused bytes refusal → MatchResult result (λ _. ⊥) (λ found. (found ≡ refusal) ⊎ (found ≡ NoMemory))
+told_by_core bytes tree result the each refusal (unread told of_bytes) = absurd (the.read refusal of_bytes)
+told_by_core bytes tree result the each refusal (unchecked file told text fails) = each refusal (subst (λ f. IsUnchecked f refusal) (sym (the.only file text)) fails)
+
+pub unchecked_by_core : {T : Type 0} (bytes : List ℕ) (tree : File) (result : Result T Refusal) → IsFileText bytes tree
+    → IfErr result (λ refusal. refusal ≢ NoMemory → IsUnchecked tree refusal) → IfErr result (λ refusal. refusal ≢ NoMemory → IsFileRefused bytes refusal)
+unchecked_by_core bytes tree (Ok value) text told = tt
+unchecked_by_core bytes tree (Err refusal) text told = λ not_memory. unchecked tree refusal text (told not_memory)

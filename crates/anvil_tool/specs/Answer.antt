@@ -59,6 +59,17 @@ pub record Passes (gives : Load → List ℕ → Type 0) (form : Form) (loaded :
   pub reached : Reaches gives form loaded []
   pub goes_on : (stages_of form).goes_on loaded
 
+-- and what is written does not stop early
+pub record Ends (gives : Load → List ℕ → Type 0) (form : Form) (loaded : List (List ℕ)) : Type 0 where
+  pub passes : Passes gives form loaded
+  pub unbroken : (text line : List ℕ) → (stages_of form).breaks loaded text line → ⊥
+
+-- or it stops at a broken promise
+pub record Breaks (gives : Load → List ℕ → Type 0) (form : Form) (text line : List ℕ) : Type 0 where
+  pub loaded : List (List ℕ)
+  pub passes : Passes gives form loaded
+  pub breaks : (stages_of form).breaks loaded text line
+
 -- a load that is asked for has more bytes than its limit, where that is told
 pub record Overflows (told : List ℕ → Option (List ℕ)) (form : Form) (loaded : List (List ℕ)) : Type 0 where
   pub load : Load
@@ -127,26 +138,35 @@ pub record IsWritten (told : List ℕ → Option (List ℕ)) (form : Form) (old 
   pub writes : (stages_of form).writes loaded text
   pub appended : Appends old new text
 
--- A put to `out` failed: it has a front part of such a text.
+-- A put to `out` failed: it has a front part of a text with which such a one begins.
 pub record OutFailed (told : List ℕ → Option (List ℕ)) (form : Form) (old new : Option (List ℕ))
     (before now : ℕ) : Type 0 where
   pub loaded : List (List ℕ)
   pub passes : Passes (MayGive told) form loaded
   pub text : List ℕ
-  pub writes : (stages_of form).writes loaded text
+  pub begins : (stages_of form).begins loaded text
   pub part : AppendsPrefix old new text
   pub cause : Rose before now
 
 -- The text stopped at a promise that is broken, and the line says where.
 pub record IsBreach (told : List ℕ → Option (List ℕ)) (form : Form)
     (old new line_old line_new : Option (List ℕ)) : Type 0 where
-  pub loaded : List (List ℕ)
-  pub passes : Passes (MayGive told) form loaded
   pub text : List ℕ
   pub line : List ℕ
-  pub breaks : (stages_of form).breaks loaded text line
+  pub breaks : Breaks (MayGive told) form text line
   pub appended : Appends old new text
   pub said : Appends line_old line_new line
+
+-- The same where the put of that line failed: `err` has a front part of it.
+pub record BreachFailed (told : List ℕ → Option (List ℕ)) (form : Form) (old new : Option (List ℕ)) (before now : ℕ)
+    (line_old line_new : Option (List ℕ)) (line_before line_now : ℕ) : Type 0 where
+  pub text : List ℕ
+  pub line : List ℕ
+  pub breaks : Breaks (MayGive told) form text line
+  pub appended : Appends old new text
+  pub fine : now ≡ before
+  pub part : AppendsPrefix line_old line_new line
+  pub cause : Rose line_before line_now
 
 -- The put of a line to `err` failed: it has a front part of such a line.
 pub record LineFailed (stands : List ℕ → Type 0) (old new : Option (List ℕ)) (before now : ℕ) : Type 0 where

@@ -9,6 +9,7 @@ use Rattle.std.specs.declared.alloc.Global.{Global}
 -- the commands
 pub data Command : Type 0 where
   compile : Command
+  run : Command
 
 -- a part of a form: its name in the usage line, and the most bytes of the file that is loaded under its word, if one is
 pub record Part : Type 0 where
@@ -19,17 +20,25 @@ pub record Part : Type 0 where
 abbrev pub longest_file : ℕ
 longest_file = 1048576
 
+-- and of a stimulus
+abbrev pub longest_stimulus : ℕ
+longest_stimulus = 16777216
+
 -- a command's own word
 abbrev pub word_of : Command → List ℕ
 word_of compile = codes "compile"
+word_of run = codes "run"
 
 -- a command's parts, in order
 abbrev pub parts_of : Command → List Part
 parts_of compile = (record { label = codes "FILE"; limit = Some longest_file }) ∷ []
+parts_of run =
+    (record { label = codes "FILE"; limit = Some longest_file }) ∷ (record { label = codes "PROC"; limit = None })
+    ∷ (record { label = codes "STIM"; limit = Some longest_stimulus }) ∷ []
 
 -- all commands, in the order of the usage line
 abbrev pub commands : List Command
-commands = compile ∷ []
+commands = compile ∷ run ∷ []
 
 -- The usage line.
 
@@ -110,6 +119,13 @@ MayLoad may_ask form = AllByRecursion (λ load. may_ask load.name) (loads_of for
 abbrev pub compile_form : List ℕ → Form
 compile_form file = record { command = compile; operands = file ∷ [] }
 
--- and the load of its file
+-- `run FILE PROC STIM`
+abbrev pub run_form : List ℕ → List ℕ → List ℕ → Form
+run_form file name stimulus = record { command = run; operands = file ∷ name ∷ stimulus ∷ [] }
+
+-- the load of a file, and of a stimulus
 abbrev pub file_load : List ℕ → Load
 file_load file = record { name = file; limit = longest_file }
+
+abbrev pub stimulus_load : List ℕ → Load
+stimulus_load stimulus = record { name = stimulus; limit = longest_stimulus }

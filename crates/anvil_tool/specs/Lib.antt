@@ -5,7 +5,9 @@ pub mod Seen
 pub mod FileText
 pub mod Output
 pub mod Refused
+pub mod Run
 pub mod Stages
 pub mod Answer
+pub mod Running
 pub mod Status
 pub mod Laws

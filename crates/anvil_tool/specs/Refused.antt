@@ -125,6 +125,9 @@ spelling code.EndpointShared = codes "EndpointShared"
 spelling code.RegisterShared = codes "RegisterShared"
 spelling code.NotTail = codes "NotTail"
 spelling code.NotBuilt = codes "NotBuilt"
+spelling code.NoProcess = codes "NoProcess"
+spelling code.BadStim = codes "BadStim"
+spelling code.TooManyRows = codes "TooManyRows"
 
 abbrev pub no_memory_line : List ℕ
 no_memory_line = codes "no memory\n"

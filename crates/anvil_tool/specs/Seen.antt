@@ -1,7 +1,8 @@
 -- The command that the code reads, as a form.
 use Rattle.anvil_tool.specs.declared.words.Command.{Command}
-use Rattle.anvil_tool.specs.declared.words.Command.TheVariants.{Compile}
-use Rattle.anvil_tool.specs.Form.{Form, compile_form}
+use Rattle.anvil_tool.specs.declared.words.Command.TheVariants.{Compile, Run}
+use Rattle.anvil_tool.specs.Form.{Form, compile_form, run_form}
 
 abbrev pub form_seen : Command → Form
 form_seen (Compile file) = compile_form file.now
+form_seen (Run file process stimulus) = run_form file.now process.now stimulus.now

@@ -7,17 +7,19 @@ use Rattle.std.specs.Prelude.{ℕ, List, [], ◌∷◌}
 use Rattle.anvil_tree.specs.Tree.{File}
 use Rattle.plain_file.specs.Plain.{Counter, IsPlainFile}
 use Rattle.anvil_tool.specs.declared.refusal.Refusal.{Refusal}
-use Rattle.anvil_tool.specs.Form.{Command, compile, Form}
+use Rattle.anvil_tool.specs.Form.{Command, compile, run, Form}
 use Rattle.anvil_tool.specs.FileText.{IsCheckedText}
 use Rattle.anvil_tool.specs.Output.{IsOutput}
 use Rattle.anvil_tool.specs.Refused.{IsRefused}
+use Rattle.anvil_tool.specs.Run.{IsProcessRefused, IsTextRefused, HasProcess, HasRun, IsLog, IsLogFront, IsBrokenLog}
 
 -- what the stages of a command say of the bytes that they have
 pub record Stages : Type 1 where
   pub refuses : List (List ℕ) → Refusal → Type 0
   pub goes_on : List (List ℕ) → Type 0
-  -- behind the last stage: the text that is written
+  -- behind the last stage: the text that is written, and a text with which it begins
   pub writes : List (List ℕ) → List ℕ → Type 0
+  pub begins : List (List ℕ) → List ℕ → Type 0
   -- a text that stops early, at a promise that is broken, and the line that says so
   pub breaks : List (List ℕ) → List ℕ → List ℕ → Type 0
 
@@ -45,13 +47,59 @@ compile_writes [] text = ⊥
 compile_writes (file ∷ []) text = IsOutput file text
 compile_writes (file ∷ other ∷ more) text = ⊥
 
+-- `run`: FILE has a process of the name, then STIM has rows for it.
+
+abbrev pub run_refuses : List ℕ → List (List ℕ) → Refusal → Type 0
+run_refuses name [] refusal = ⊥
+run_refuses name (file ∷ []) refusal = IsProcessRefused file name refusal
+run_refuses name (file ∷ stimulus ∷ []) refusal = IsTextRefused file name stimulus refusal
+run_refuses name (file ∷ stimulus ∷ other ∷ more) refusal = ⊥
+
+abbrev pub run_goes_on : List ℕ → List (List ℕ) → Type 0
+run_goes_on name [] = Unit {0}
+run_goes_on name (file ∷ []) = HasProcess file name
+run_goes_on name (file ∷ stimulus ∷ []) = HasRun file name stimulus
+run_goes_on name (file ∷ stimulus ∷ other ∷ more) = ⊥
+
+abbrev pub run_writes : List ℕ → List (List ℕ) → List ℕ → Type 0
+run_writes name [] text = ⊥
+run_writes name (file ∷ []) text = ⊥
+run_writes name (file ∷ stimulus ∷ []) text = IsLog file name stimulus text
+run_writes name (file ∷ stimulus ∷ other ∷ more) text = ⊥
+
+abbrev pub run_begins : List ℕ → List (List ℕ) → List ℕ → Type 0
+run_begins name [] text = ⊥
+run_begins name (file ∷ []) text = ⊥
+run_begins name (file ∷ stimulus ∷ []) text = IsLogFront file name stimulus text
+run_begins name (file ∷ stimulus ∷ other ∷ more) text = ⊥
+
+abbrev pub run_breaks : List ℕ → List (List ℕ) → List ℕ → List ℕ → Type 0
+run_breaks name [] text line = ⊥
+run_breaks name (file ∷ []) text line = ⊥
+run_breaks name (file ∷ stimulus ∷ []) text line = IsBrokenLog file name stimulus text line
+run_breaks name (file ∷ stimulus ∷ other ∷ more) text line = ⊥
+
+-- the name stands between the two files
+abbrev pub name_in : List (List ℕ) → List ℕ
+name_in [] = []
+name_in (file ∷ []) = []
+name_in (file ∷ name ∷ more) = name
+
 -- The stages of each command, which may ask for the words of the form too.
 abbrev pub stages_by : Command → List (List ℕ) → Stages
 stages_by compile operands = record {
   refuses = compile_refuses;
   goes_on = compile_goes_on;
   writes = compile_writes;
+  begins = compile_writes;
   breaks = λ loaded text line. ⊥;
+}
+stages_by run operands = record {
+  refuses = run_refuses (name_in operands);
+  goes_on = run_goes_on (name_in operands);
+  writes = run_writes (name_in operands);
+  begins = run_begins (name_in operands);
+  breaks = run_breaks (name_in operands);
 }
 
 abbrev pub stages_of : Form → Stages

@@ -7,7 +7,7 @@ ghost use Rattle.sv_tree.specs.Text.{modules_text};
 ghost use Rattle.plain_file.specs.Plain.{Counter, IsPlainFile};
 ghost use Rattle.anvil_tool.specs.declared.refusal.Refusal.{Refusal};
 ghost use Rattle.anvil_tool.specs.Form.{compile_form, longest_file};
-ghost use Rattle.anvil_tool.specs.Answer.{HasNoFault, IsFirstRefusal, IsLine, IsReadFault, IsRefusedBy, IsTooLong, IsUntouched, IsWritten, LineFailed, OutFailed, Overflows, Passes, Tells};
+ghost use Rattle.anvil_tool.specs.Answer.{HasNoFault, IsFirstRefusal, IsLine, IsReadFault, IsRefusedBy, IsTooLong, IsUntouched, IsWritten, LineFailed, OutFailed, Overflows, Ends, Tells};
 ghost use Rattle.anvil_tool.specs.FileText.{IsCheckedText};
 ghost use Rattle.anvil_tool.specs.Output.{IsOutput};
 ghost use Rattle.anvil_tool.specs.Refused.{IsLineOf, IsRefusalLine, IsRefused, no_memory_line, refusal_line};
@@ -71,7 +71,7 @@ pub fn compile_file<S: Shelf, O: Sink, E: Sink>(
         (E.faults err.old) (E.faults err.new)) }
     ensures out_fault { O.faults out.old < O.faults out.new → result ≡ Status.WriteFault }
     ensures err_fault { E.faults err.old < E.faults err.new → result ≡ Status.WriteFault }
-    ensures complete { (loaded : List (List ℕ)) → Passes (Tells (S.told shelf.old)) (compile_form file.now) loaded
+    ensures complete { (loaded : List (List ℕ)) → Ends (Tells (S.told shelf.old)) (compile_form file.now) loaded
         → HasNoFault (S.faults shelf.old) (S.faults shelf.new)
         → HasNoFault (O.faults out.old) (O.faults out.new)
         → HasNoFault (E.faults err.old) (E.faults err.new)

@@ -1,12 +1,17 @@
 //! The one line on standard error that stands beside each status but `Done`.
-ghost use Rattle.std.specs.Prelude.{◌≡◌, ◌≢◌, ◌⊎◌, ◌≤◌, ◌++◌, codes};
+ghost use Rattle.std.specs.Prelude.{◌≡◌, ◌≢◌, ◌⊎◌, ◌≤◌, ◌<◌, ◌++◌, codes, length, map};
 ghost use Rattle.std.specs.Io.KnownBytes.{Appends};
 ghost use Rattle.anvil_io.specs.Causes.{AppendsPrefix, Rose, joined};
+ghost use Rattle.core_term.specs.Process.{nth_port};
+ghost use Rattle.core_term.specs.ProcessView.{port_of};
 ghost use Rattle.anvil_tool.specs.Refused.{refusal_line};
+ghost use Rattle.anvil_tool.specs.Run.{breach_line, promise_line};
 
 use crate::refusal::{Code, Refusal, spelling};
 use crate::status::Status;
 use anvil_io::{Sink, put_all};
+use anvil_lexer::Name;
+use core_term::CoreProc;
 use itoa::Buffer;
 
 /// Puts a line, and gives `status`, or `WriteFault` where the put failed.
@@ -107,4 +112,45 @@ fn complain_at_both<E: Sink>(err: &mut E, code: Code, at: u32, other: u32) -> St
         b"\n",
     ];
     complain(err, &line, Status::Refused)
+}
+
+/// The line of a broken promise.
+pub fn complain_breach<E: Sink>(err: &mut E, proc: &CoreProc, cycle: u32, port: u32) -> Status
+    requires { port < length proc.now.ports.items }
+    ensures status { (result ≡ Status.Breach) ⊎ (result ≡ Status.WriteFault) }
+    ensures whole { result ≢ Status.WriteFault → Appends (E.held err.old) (E.held err.new)
+        (breach_line cycle (nth_port (map port_of proc.now.ports.items) port)) }
+    ensures fine { result ≢ Status.WriteFault → E.faults err.new ≡ E.faults err.old }
+    ensures part { result ≡ Status.WriteFault → AppendsPrefix (E.held err.old) (E.held err.new)
+        (breach_line cycle (nth_port (map port_of proc.now.ports.items) port)) }
+    ensures cause { result ≡ Status.WriteFault → Rose (E.faults err.old) (E.faults err.new) }
+    ensures later { E.faults err.old ≤ E.faults err.new }
+{
+    let ports = proc.ports.as_slice();
+    let broken = &ports[port as usize];
+    complain_of_port(err, cycle, &broken.endpoint, &broken.message)
+}
+
+// The same with the names of the port.
+fn complain_of_port<E: Sink>(err: &mut E, cycle: u32, endpoint: &Name, message: &Name) -> Status
+    ensures status { (result ≡ Status.Breach) ⊎ (result ≡ Status.WriteFault) }
+    ensures whole { result ≢ Status.WriteFault → Appends (E.held err.old) (E.held err.new)
+        (promise_line cycle endpoint.now message.now) }
+    ensures fine { result ≢ Status.WriteFault → E.faults err.new ≡ E.faults err.old }
+    ensures part { result ≡ Status.WriteFault → AppendsPrefix (E.held err.old) (E.held err.new)
+        (promise_line cycle endpoint.now message.now) }
+    ensures cause { result ≡ Status.WriteFault → Rose (E.faults err.old) (E.faults err.new) }
+    ensures later { E.faults err.old ≤ E.faults err.new }
+{
+    let mut number = Buffer::new();
+    let line: [&[u8]; 7] = [
+        b"breach: cycle ",
+        number.format(cycle).as_bytes(),
+        b" port ",
+        endpoint.bytes(),
+        b".",
+        message.bytes(),
+        b"\n",
+    ];
+    complain(err, &line, Status::Breach)
 }

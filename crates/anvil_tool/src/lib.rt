@@ -9,8 +9,11 @@ mod complain;
 mod front;
 mod laws;
 mod modules;
+mod process;
 mod refusal;
+mod run;
 mod status;
+mod stimulus;
 mod tool;
 mod words;
 

@@ -33,6 +33,9 @@ pub(crate) enum Code {
     RegisterShared,
     NotTail,
     NotBuilt,
+    NoProcess,
+    BadStim,
+    TooManyRows,
 }
 
 /// Why a command gives no output, and where: places are byte offsets, lines are counted from 1.
@@ -78,6 +81,9 @@ pub(crate) fn spelling(code: Code) -> &'static [u8]
         Code::RegisterShared => b"RegisterShared",
         Code::NotTail => b"NotTail",
         Code::NotBuilt => b"NotBuilt",
+        Code::NoProcess => b"NoProcess",
+        Code::BadStim => b"BadStim",
+        Code::TooManyRows => b"TooManyRows",
     }
 }
 

@@ -3,21 +3,24 @@ ghost use Rattle.std.specs.Prelude.{◌≡◌, ◌≢◌, ◌⊎◌, ◌≤◌, 
 ghost use Rattle.std.specs.Io.KnownBytes.{Appends};
 ghost use Rattle.anvil_io.specs.Causes.{Rose};
 ghost use Rattle.anvil_tool.specs.declared.refusal.Refusal.{Refusal};
-ghost use Rattle.anvil_tool.specs.Answer.{HasNoFault, IsBreach, IsFirstRefusal, IsLine, IsReadFault, IsRefusedBy, IsTooLong, IsUntouched, IsWritten, LineFailed, OutFailed, Overflows, Passes, Tells};
+ghost use Rattle.anvil_tool.specs.Answer.{Breaks, BreachFailed, Ends, HasNoFault, IsBreach, IsFirstRefusal, IsLine, IsReadFault, IsRefusedBy, IsTooLong, IsUntouched, IsWritten, LineFailed, OutFailed, Overflows, Tells};
 ghost use Rattle.anvil_tool.specs.Form.{Form, MayLoad, form_of, usage_line, words_of};
 ghost use Rattle.anvil_tool.specs.Refused.{IsLineOf, no_memory_line, refusal_line};
 
 use crate::compile::compile_file;
 use crate::complain::complain;
+use crate::run::run_file;
 use crate::status::Status;
 use crate::words::{Command, form_of};
 use anvil_io::{Shelf, Sink};
 use std::alloc::Global;
 
-/// Does what the words say: `compile FILE` puts the modules of a plain file's processes to `out`, in the order of the file.
+/// Does what the words say: `compile FILE` puts the modules of a plain file's processes to `out`, in the order of the file, and
+/// `run FILE PROC STIM` the log of a process on the rows of a stimulus.
 ///
 /// `words` leaves out the program's own name. The shelf is asked for the files of the form alone, so each has to be one that
-/// may be asked for. On every status but `Done` and `WriteFault` nothing is put to `out`, and one line is put to `err`.
+/// may be asked for. On every status but `Done`, `Breach` and `WriteFault` nothing is put to `out`, and on every one but `Done`
+/// and `WriteFault` one line is put to `err`.
 pub fn run_tool<S: Shelf, O: Sink, E: Sink>(
     alloc: Global,
     words: &[String],
@@ -65,16 +68,23 @@ pub fn run_tool<S: Shelf, O: Sink, E: Sink>(
     ensures quiet { result ≡ Status.Done
         → IsUntouched (E.held err.old) (E.held err.new) (E.faults err.old) (E.faults err.new) }
 
-    // The text stops at a broken promise. No command of today has one.
+    // The text stops at a broken promise. The line on `err` says where.
     ensures breach { result ≡ Status.Breach → IfSome (form_of (words_of words.now)) (λ form.
         IsBreach (S.told shelf.old) form (O.held out.old) (O.held out.new) (E.held err.old) (E.held err.new)) }
-    ensures no_breach { result ≢ Status.Breach }
+    ensures every_breach { IfSome (form_of (words_of words.now)) (λ form. (text line : List ℕ)
+        → Breaks (Tells (S.told shelf.old)) form text line
+        → HasNoFault (S.faults shelf.old) (S.faults shelf.new)
+        → HasNoFault (O.faults out.old) (O.faults out.new)
+        → HasNoFault (E.faults err.old) (E.faults err.new)
+        → ((result ≡ Status.Breach) × Appends (O.held out.old) (O.held out.new) text
+        × Appends (E.held err.old) (E.held err.new) line)
+        ⊎ (result ≡ Status.NoMemory)) }
 
     // No memory was found.
     ensures no_memory_line { result ≡ Status.NoMemory → Appends (E.held err.old) (E.held err.new) no_memory_line }
 
-    // On every other answer than `Done` and `WriteFault` nothing was put to `out`.
-    ensures untouched { result ≢ Status.Done → result ≢ Status.WriteFault →
+    // On every other answer than `Done`, `Breach` and `WriteFault` nothing was put to `out`.
+    ensures untouched { result ≢ Status.Done → result ≢ Status.WriteFault → result ≢ Status.Breach →
         IsUntouched (O.held out.old) (O.held out.new) (O.faults out.old) (O.faults out.new) }
 
     // A put failed, and nothing was put after it.
@@ -84,13 +94,16 @@ pub fn run_tool<S: Shelf, O: Sink, E: Sink>(
         × IsUntouched (E.held err.old) (E.held err.new) (E.faults err.old) (E.faults err.new))
         ⊎ (IsUntouched (O.held out.old) (O.held out.new) (O.faults out.old) (O.faults out.new)
         × LineFailed (IsLine (S.told shelf.old) (form_of (words_of words.now))) (E.held err.old) (E.held err.new)
-        (E.faults err.old) (E.faults err.new)) }
+        (E.faults err.old) (E.faults err.new))
+        ⊎ ((form : Form) × (form_of (words_of words.now) ≡ Some form)
+        × BreachFailed (S.told shelf.old) form (O.held out.old) (O.held out.new) (O.faults out.old) (O.faults out.new)
+        (E.held err.old) (E.held err.new) (E.faults err.old) (E.faults err.new)) }
     ensures out_fault { O.faults out.old < O.faults out.new → result ≡ Status.WriteFault }
     ensures err_fault { E.faults err.old < E.faults err.new → result ≡ Status.WriteFault }
 
     // Where nothing stands against it, the text is put, or no memory was found.
     ensures complete { IfSome (form_of (words_of words.now)) (λ form. (loaded : List (List ℕ))
-        → Passes (Tells (S.told shelf.old)) form loaded
+        → Ends (Tells (S.told shelf.old)) form loaded
         → HasNoFault (S.faults shelf.old) (S.faults shelf.new)
         → HasNoFault (O.faults out.old) (O.faults out.new)
         → HasNoFault (E.faults err.old) (E.faults err.new)
@@ -98,6 +111,15 @@ pub fn run_tool<S: Shelf, O: Sink, E: Sink>(
 {
     match form_of(words) {
         Some(Command::Compile { file }) => compile_file(alloc, file, shelf, out, err),
-        None => complain(err, &[b"usage: anvil compile FILE\n"], Status::Usage),
+        Some(Command::Run {
+            file,
+            process,
+            stimulus,
+        }) => run_file(alloc, file, process, stimulus, shelf, out, err),
+        None => complain(
+            err,
+            &[b"usage: anvil compile FILE | run FILE PROC STIM\n"],
+            Status::Usage,
+        ),
     }
 }

@@ -9,6 +9,12 @@ ghost use Rattle.anvil_tool.specs.Seen.{form_seen};
 pub enum Command<'a> {
     /// `compile FILE`.
     Compile { file: &'a str },
+    /// `run FILE PROC STIM`.
+    Run {
+        file: &'a str,
+        process: &'a str,
+        stimulus: &'a str,
+    },
 }
 
 /// The form that words have, if they have one.
@@ -16,12 +22,49 @@ pub fn form_of(words: &[String]) -> Option<Command<'_>>
     ensures { option_map form_seen result ≡ form_of (words_of words.now) }
 {
     match words {
-        [command, file] if command.as_str() == "compile" && is_operand(file.as_bytes()) => {
-            Some(Command::Compile {
-                file: file.as_str(),
-            })
-        }
+        [command, file] => compile_words(command.as_str(), file.as_str()),
+        [command, file, process, stimulus] => run_words(
+            command.as_str(),
+            file.as_str(),
+            process.as_str(),
+            stimulus.as_str(),
+        ),
         _ => None,
+    }
+}
+
+// Two words.
+fn compile_words<'a>(command: &'a str, file: &'a str) -> Option<Command<'a>>
+    ensures { option_map form_seen result ≡ form_of (command.now ∷ file.now ∷ []) }
+{
+    if command == "compile" && is_operand(file.as_bytes()) {
+        Some(Command::Compile { file })
+    } else {
+        None
+    }
+}
+
+// Four words.
+fn run_words<'a>(
+    command: &'a str,
+    file: &'a str,
+    process: &'a str,
+    stimulus: &'a str,
+) -> Option<Command<'a>>
+    ensures { option_map form_seen result ≡ form_of (command.now ∷ file.now ∷ process.now ∷ stimulus.now ∷ []) }
+{
+    if command == "run"
+        && is_operand(file.as_bytes())
+        && is_operand(process.as_bytes())
+        && is_operand(stimulus.as_bytes())
+    {
+        Some(Command::Run {
+            file,
+            process,
+            stimulus,
+        })
+    } else {
+        None
     }
 }
 

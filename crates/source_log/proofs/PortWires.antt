@@ -27,7 +27,7 @@ past_cell (port ∷ ports) [] j fits past = absurd cc
 past_cell (port ∷ ports) (cell ∷ cells) zero fits past = absurd (omega arith)
 past_cell (port ∷ ports) (cell ∷ cells) (suc j) fits past = past_cell ports cells j (and_second (cell_fits port cell) _ fits) (omega arith)
 
-received_within : (ports : List Port) (m : ℕ) → (nth_port ports m).received ≡ true → m < length ports
+pub received_within : (ports : List Port) (m : ℕ) → (nth_port ports m).received ≡ true → m < length ports
 received_within [] m received = absurd (false≢true received)
 received_within (port ∷ ports) zero received = omega arith
 received_within (port ∷ ports) (suc m) received = let rest = received_within ports m received in omega (arith, rest)

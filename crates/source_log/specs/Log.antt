@@ -52,6 +52,7 @@ pub record IsCut (p : Process) (rows : List Row) (old new : Option (List ℕ)) (
   pub kept : IsKeptTo p rows lines
   pub part : AppendsPrefix old new (log_to p rows lines)
   pub cause : Rose before now
+  pub later : before ≤ now
 
 -- nothing
 pub record IsNothing (old new : Option (List ℕ)) (before now : ℕ) : Type 0 where

@@ -1,5 +1,5 @@
 -- A simulation and a watch of one process, side by side, after the first n of some rows.
-use Rattle.std.specs.Prelude.{ℕ, ◌≡◌, ◌+◌, ◌<◌, true, List, length, take, Option, Result, MatchResult}
+use Rattle.std.specs.Prelude.{ℕ, ◌≡◌, ◌+◌, ◌<◌, ◌≤◌, true, List, length, take, Option, Result, MatchResult}
 use Rattle.std.specs.Io.KnownBytes.{Appends}
 use Rattle.anvil_io.specs.Causes.{AppendsPrefix, Rose}
 use Rattle.anvil_io.specs.declared.outside.SinkFault.{SinkFault}
@@ -50,6 +50,7 @@ pub record IsCutCycle (p : Process) (rows : List Row) (n : ℕ) (old new : Optio
   pub kept : IsKeptTo p rows (n + 1)
   pub part : AppendsPrefix old new (log_line p (wires_on p rows) (registers_on p rows) n)
   pub cause : Rose before now
+  pub later : before ≤ now
 
 abbrev pub TakesCycle :
     Process → List Row → ℕ → Result Seen SinkFault → sim.Seen → Watching

@@ -31,8 +31,8 @@ returns-in-Ok-clause-every_refusal g c = λ refusal first fine.
     c.compile.ensures.every_refusal refusal (rw c.deref.ensures.value (rw same refused))
 
 pub returns-in-Ok-clause-complete : goal.returns-in-Ok-clause-complete
-returns-in-Ok-clause-complete g c = λ loaded passes fine out_fine err_fine.
-    let (bytes, tells, plain) = plain_told (Tells (g.S.Shelf.told c.args.shelf.now)) c.args.file.now loaded passes in
+returns-in-Ok-clause-complete g c = λ loaded ends fine out_fine err_fine.
+    let (bytes, tells, plain) = plain_told (Tells (g.S.Shelf.told c.args.shelf.now)) c.args.file.now loaded ends.passes in
     let same : c.load.new.into.items ≡ bytes = told_loaded _ bytes c.load.new.into.items tells.tells c.in-Ok.ensures.bytes in
     c.compile.ensures.complete plain.file plain.counters (rw c.deref.ensures.value (rw same plain.spelled)) plain.plain out_fine err_fine
 

@@ -84,4 +84,4 @@ returns-in-Err-clause-cycle g c = λ rows n inside is standing.
     (regs (take n rows) standing.simulated (inputs_of rows) (begins p rows n row inside is))
     ∙ line_now p rows n row inside is c.args.sim.now c.step.new.self c.args.watch.now out standing stands cells in
     let kept = kept_now p rows n row inside is c.args.sim.now c.step.new.self c.args.watch.now out standing stands cells c.step-2.new.self watched in
-    record { kept = kept; part = subst (λ text. AppendsPrefix (g.O.Sink.held c.args.out.now) (g.O.Sink.held c.put_row.new.to) text) line c.in-Err.ensures.put.part; cause = c.in-Err.ensures.put.cause }
+    record { kept = kept; part = subst (λ text. AppendsPrefix (g.O.Sink.held c.args.out.now) (g.O.Sink.held c.put_row.new.to) text) line c.in-Err.ensures.put.part; cause = c.in-Err.ensures.put.cause; later = c.in-Err.ensures.put.later }

@@ -1,5 +1,5 @@
 -- One line more, a line that was cut, and all lines.
-use Rattle.std.proofs.Common.{◌≡◌, ◌∙◌, ◌+◌, length, subst, sym, arith}
+use Rattle.std.proofs.Common.{◌≤◌, ◌≡◌, ◌∙◌, ◌+◌, length, subst, sym, arith}
 use Rattle.std.specs.Io.KnownBytes.{Appends}
 use Rattle.anvil_io.specs.Causes.{AppendsPrefix, Rose}
 use Rattle.anvil_io.proofs.PieceLemmas.{appends_then, prefix_then}
@@ -25,6 +25,7 @@ returns-in-Err g c =
           (prefix_then (g.O.Sink.held c.args.out.now) (g.O.Sink.held c.loop-index.out) (g.O.Sink.held c.put_cycle.new.out) (log_to p c.args.rows.now n)
           (log_line p (wires_on p c.args.rows.now) (registers_on p c.args.rows.now) n) appended cut.part);
       cause = subst (λ before. Rose before (g.O.Sink.faults c.put_cycle.new.out)) fine cut.cause;
+      later = subst (λ before. before ≤ g.O.Sink.faults c.put_cycle.new.out) fine cut.later;
     }
 
 pub loop-index-preserved : goal.loop-index-preserved
