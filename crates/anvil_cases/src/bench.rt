@@ -50,7 +50,10 @@ pub fn run_on(
     }
     let mut files = Vec::new(alloc);
     files.push((String::from_str(alloc, "f")?, Vec::from_slice(alloc, file)?))?;
-    files.push((String::from_str(alloc, "s")?, Vec::from_slice(alloc, stimulus)?))?;
+    files.push((
+        String::from_str(alloc, "s")?,
+        Vec::from_slice(alloc, stimulus)?,
+    ))?;
     let mut shelf = MemShelf::new(files, Vec::from_slice(alloc, faults.loads)?);
     let mut out = MemSink::new(alloc, 65536, Vec::from_slice(alloc, faults.outs)?)?;
     let mut err = MemSink::new(alloc, 1024, Vec::from_slice(alloc, faults.errs)?)?;

@@ -27,10 +27,42 @@ const CLIENT: &[u8] =
 
 /// What it shows, the file, the process, the stimulus, the status, and what stands on both sinks.
 const RUNS: [(&str, &[u8], &str, &[u8], Status, &[u8], &[u8]); 17] = [
-    ("a counter", COUNTER, "c", b"\n\n\n\n\n", Status::Done, b"a=0\na=1\na=1\na=1\na=2\n", b""),
-    ("a turn in each cycle", EACH_CYCLE, "c", b"\n\n\n", Status::Done, b"a=0\na=1\na=2\n", b""),
-    ("no file", b"", "c", b"", Status::Refused, b"", b"refused: NoProcess\n"),
-    ("another process", COUNTER, "d", b"\n", Status::Refused, b"", b"refused: NoProcess\n"),
+    (
+        "a counter",
+        COUNTER,
+        "c",
+        b"\n\n\n\n\n",
+        Status::Done,
+        b"a=0\na=1\na=1\na=1\na=2\n",
+        b"",
+    ),
+    (
+        "a turn in each cycle",
+        EACH_CYCLE,
+        "c",
+        b"\n\n\n",
+        Status::Done,
+        b"a=0\na=1\na=2\n",
+        b"",
+    ),
+    (
+        "no file",
+        b"",
+        "c",
+        b"",
+        Status::Refused,
+        b"",
+        b"refused: NoProcess\n",
+    ),
+    (
+        "another process",
+        COUNTER,
+        "d",
+        b"\n",
+        Status::Refused,
+        b"",
+        b"refused: NoProcess\n",
+    ),
     (
         "a file that does not pass",
         b"proc c() { loop { cycle 0 } }",
@@ -40,7 +72,15 @@ const RUNS: [(&str, &[u8], &str, &[u8], Status, &[u8], &[u8]); 17] = [
         b"",
         b"refused: BadCount at 24\n",
     ),
-    ("an echo", ECHO, "e", b"0:0 0\n1:7 0\n0:7 1\n0:0 0\n", Status::Done, ECHO_LOG, b""),
+    (
+        "an echo",
+        ECHO,
+        "e",
+        b"0:0 0\n1:7 0\n0:7 1\n0:0 0\n",
+        Status::Done,
+        ECHO_LOG,
+        b"",
+    ),
     (
         "carriage returns, and no last line feed",
         ECHO,
@@ -60,10 +100,42 @@ const RUNS: [(&str, &[u8], &str, &[u8], Status, &[u8], &[u8]); 17] = [
         b"breach: cycle 2 port p.req\n",
     ),
     ("no rows", ECHO, "e", b"", Status::Done, b"", b""),
-    ("a valid of 2", ECHO, "e", b"0:0 0\n2:7 0\n", Status::Refused, b"", b"refused: BadStim at 2\n"),
-    ("data of 2^8", ECHO, "e", b"0:256 0\n", Status::Refused, b"", b"refused: BadStim at 1\n"),
-    ("a leading zero", ECHO, "e", b"0:00 0\n", Status::Refused, b"", b"refused: BadStim at 1\n"),
-    ("an empty first line", ECHO, "e", b"\n0:0 0\n", Status::Refused, b"", b"refused: BadStim at 1\n"),
+    (
+        "a valid of 2",
+        ECHO,
+        "e",
+        b"0:0 0\n2:7 0\n",
+        Status::Refused,
+        b"",
+        b"refused: BadStim at 2\n",
+    ),
+    (
+        "data of 2^8",
+        ECHO,
+        "e",
+        b"0:256 0\n",
+        Status::Refused,
+        b"",
+        b"refused: BadStim at 1\n",
+    ),
+    (
+        "a leading zero",
+        ECHO,
+        "e",
+        b"0:00 0\n",
+        Status::Refused,
+        b"",
+        b"refused: BadStim at 1\n",
+    ),
+    (
+        "an empty first line",
+        ECHO,
+        "e",
+        b"\n0:0 0\n",
+        Status::Refused,
+        b"",
+        b"refused: BadStim at 1\n",
+    ),
     (
         "two partners, the left one first",
         JOIN,
@@ -105,7 +177,13 @@ const RUNS: [(&str, &[u8], &str, &[u8], Status, &[u8], &[u8]); 17] = [
 #[test]
 fn logs_are_as_worked_out(rt: HostRuntime) -> Result<(), Fail> {
     for (what, file, process, stimulus, status, out, err) in RUNS.iter() {
-        let ended = run_on(rt.alloc(), &["run", "f", *process, "s"], file, stimulus, NO_FAULTS)?;
+        let ended = run_on(
+            rt.alloc(),
+            &["run", "f", *process, "s"],
+            file,
+            stimulus,
+            NO_FAULTS,
+        )?;
         assert!(rt; ended.status == *status, "{what}");
         assert_eq!(rt; ended.out.bytes(), *out, "{what}");
         assert_eq!(rt; ended.err.bytes(), *err, "{what}");
@@ -135,7 +213,13 @@ fn the_second_load_fails(rt: HostRuntime) -> Result<(), Fail> {
         outs: &[],
         errs: &[],
     };
-    let failed = run_on(rt.alloc(), &["run", "f", "e", "s"], ECHO, b"0:0 0\n", faults)?;
+    let failed = run_on(
+        rt.alloc(),
+        &["run", "f", "e", "s"],
+        ECHO,
+        b"0:0 0\n",
+        faults,
+    )?;
     assert!(rt; failed.status == Status::ReadFault);
     assert_eq!(rt; failed.out.bytes(), b"".as_slice());
     assert_eq!(rt; failed.err.bytes(), b"read fault: s\n".as_slice());

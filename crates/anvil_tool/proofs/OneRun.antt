@@ -110,11 +110,11 @@ module _ (file name stimulus : List ℕ) where
         → (text : List ℕ) × Tells told (stimulus_load stimulus) text × IsStimulusRefused p.ports text refusal
     refused_stimulus refusal first = elim (refusal_told (Tells told) refusal first) [
       | inl (others, tells, refused) ↦
-        let of_bytes = subst (λ b. IsProcessRefused b name refusal) (sym (same_bytes others tells)) refused in
-        absurd (process_or_refused bytes name refusal of_bytes (record { process = p; of_file = begun.of_file }))
+          let of_bytes = subst (λ b. IsProcessRefused b name refusal) (sym (same_bytes others tells)) refused in
+          absurd (process_or_refused bytes name refusal of_bytes (record { process = p; of_file = begun.of_file }))
       | inr (others, text, tells, tells_too, refused) ↦
-        let of_bytes = subst (λ b. IsTextRefused b name text refusal) (sym (same_bytes others tells)) refused in
-        (text, tells_too, subst (λ (q : Process). IsStimulusRefused q.ports text refusal) (same_process bytes name of_bytes.process p of_bytes.of_file begun.of_file) of_bytes.refused)
+          let of_bytes = subst (λ b. IsTextRefused b name text refusal) (sym (same_bytes others tells)) refused in
+          (text, tells_too, subst (λ (q : Process). IsStimulusRefused q.ports text refusal) (same_process bytes name of_bytes.process p of_bytes.of_file begun.of_file) of_bytes.refused)
     ]
 
     pub broken_stimulus : (whole line : List ℕ) → Breaks (Tells told) (run_form file name stimulus) whole line
@@ -127,13 +127,20 @@ module _ (file name stimulus : List ℕ) where
         → (text : List ℕ) × Tells told (stimulus_load stimulus) text × HasRows p text × ((whole line : List ℕ) → StopsAt p text whole line → ⊥)
     whole_stimulus loaded ends =
         let (others, text, two, tells, tells_too, run) = run_told (Tells told) loaded ends.passes in
-        let same = same_process others name run.process p run.is.of_file (subst (λ b. IsProcessOf b name p) (same_bytes others tells) begun.of_file) in
-        (text, tells_too, record { rows = run.rows; are = subst (λ (q : Process). AreRowsOf q.ports text run.rows) same run.is.of_text },
-        λ whole line stops. ends.unbroken whole line (subst (λ all. run_breaks name all whole line) (sym two)
-            (record {
-              run = record { process = p; rows = stops.rows; is = record { of_file = subst (λ b. IsProcessOf b name p) (same_bytes others tells) begun.of_file; of_text = stops.are } };
-              cycle = stops.cycle; port = stops.port; first = stops.first; is = stops.is; told = stops.told;
-            })))
+        let same = same_process others name run.process p run.is.of_file (subst (λ b. IsProcessOf b name p) (same_bytes others tells) begun.of_file) in (
+          text,
+          tells_too,
+          record { rows = run.rows; are = subst (λ (q : Process). AreRowsOf q.ports text run.rows) same run.is.of_text },
+          λ whole line stops. ends.unbroken whole line (subst (λ all. run_breaks name all whole line) (sym two)
+              (record {
+                run = record { process = p; rows = stops.rows; is = record { of_file = subst (λ b. IsProcessOf b name p) (same_bytes others tells) begun.of_file; of_text = stops.are } };
+                cycle = stops.cycle;
+                port = stops.port;
+                first = stops.first;
+                is = stops.is;
+                told = stops.told;
+              })),
+        )
 
   -- The answers, of the bytes of a file with the process and of a text.
   module _ (told : List ℕ → Option (List ℕ)) (bytes text : List ℕ) (p : Process) (begun : IsBegun told file name bytes p) (given : MayGive told (stimulus_load stimulus) text) where
@@ -186,7 +193,13 @@ module _ (file name stimulus : List ℕ) where
     pub breach_failed : (old new : Option (List ℕ)) (before now : ℕ) (line_old line_new : Option (List ℕ)) (line_before line_now : ℕ) → LineCut p text old new before now line_old line_new line_before line_now
         → BreachFailed told (run_form file name stimulus) old new before now line_old line_new line_before line_now
     breach_failed old new before now line_old line_new line_before line_now cut = record {
-      text = cut.whole; line = cut.line; breaks = breaks_by cut.whole cut.line cut.stops; appended = cut.appended; fine = cut.fine; part = cut.part; cause = cut.cause;
+      text = cut.whole;
+      line = cut.line;
+      breaks = breaks_by cut.whole cut.line cut.stops;
+      appended = cut.appended;
+      fine = cut.fine;
+      part = cut.part;
+      cause = cut.cause;
     }
 
     pub line_of : (line : List ℕ) → (line ≡ no_memory_line) ⊎ ((refusal : Refusal) × IsStimulusRefused p.ports text refusal × (line ≡ refusal_line refusal))
@@ -209,7 +222,12 @@ grew_under (Some bytes) old middle new limit later grew = tt
 -- a load before takes bytes too
 pub too_long_in_all : (told : List ℕ → Option (List ℕ)) (asked : Form) (before middle now : ℕ) (old new : Option (List ℕ)) → before ≤ middle → IsTooLong told asked middle now old new → IsTooLong told asked before now old new
 too_long_in_all told asked before middle now old new later long = record {
-  loaded = long.loaded; load = long.load; asked = long.asked; long = long.long; taken = grew_under (told long.load.name) before middle now long.load.limit later long.taken; appended = long.appended;
+  loaded = long.loaded;
+  load = long.load;
+  asked = long.asked;
+  long = long.long;
+  taken = grew_under (told long.load.name) before middle now long.load.limit later long.taken;
+  appended = long.appended;
 }
 
 pub memory_or_not : (refusal : Refusal) → (refusal ≡ NoMemory) ⊎ (refusal ≢ NoMemory)

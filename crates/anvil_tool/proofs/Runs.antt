@@ -72,9 +72,10 @@ stops_once p text whole other line said rows_once one two =
     let second : IsFirstBreach p (wires_on p one.rows) two.cycle two.port = subst (λ seen. IsFirstBreach p seen two.cycle two.port) (sym (ap (wires_by p) inputs)) two.first in
     let cycle = same_cycle p (wires_on p one.rows) one.cycle two.cycle one.port two.port one.first second in
     let at_cycle : IsFirstBreach p (wires_on p one.rows) one.cycle two.port = subst (λ t. IsFirstBreach p (wires_on p one.rows) t two.port) (sym cycle) second in
-    let port = same_port p (wires_on p one.rows) one.cycle one.port two.port one.first at_cycle in
-    (one.is ∙ (ap (text_by p one.cycle) inputs ∙ (ap (log_to p two.rows) cycle ∙ sym two.is)),
-    one.told ∙ (ap (λ t. breach_line t (nth_port p.ports one.port)) cycle ∙ (ap (λ m. breach_line two.cycle (nth_port p.ports m)) port ∙ sym two.told)))
+    let port = same_port p (wires_on p one.rows) one.cycle one.port two.port one.first at_cycle in (
+      one.is ∙ (ap (text_by p one.cycle) inputs ∙ (ap (log_to p two.rows) cycle ∙ sym two.is)),
+      one.told ∙ (ap (λ t. breach_line t (nth_port p.ports one.port)) cycle ∙ (ap (λ m. breach_line two.cycle (nth_port p.ports m)) port ∙ sym two.told)),
+    )
 
 -- what a broken log of a file, a name and a stimulus says of the process
 pub stops_of : (bytes name stimulus text line : List ℕ) (p : Process) → IsProcessOf bytes name p → IsBrokenLog bytes name stimulus text line → StopsAt p stimulus text line

@@ -49,7 +49,11 @@ fn find_process(core: &CoreFile, name: &[u8]) -> Option<usize>
 }
 
 /// The process of the name in the file that the bytes spell, or why there is none.
-pub(crate) fn process_of_bytes(alloc: Global, bytes: &[u8], name: &[u8]) -> Result<CoreProc, Refusal>
+pub(crate) fn process_of_bytes(
+    alloc: Global,
+    bytes: &[u8],
+    name: &[u8],
+) -> Result<CoreProc, Refusal>
     requires { length bytes.now ≤ 2 ^ 20 }
     ensures process { IfOk result (λ process. IsProcessOf bytes.now name.now
         (process_of process.name process.ports.items process.regs.items process.threads.items)) }

@@ -111,11 +111,13 @@ pub fn run_tool<S: Shelf, O: Sink, E: Sink>(
 {
     match form_of(words) {
         Some(Command::Compile { file }) => compile_file(alloc, file, shelf, out, err),
-        Some(Command::Run {
-            file,
-            process,
-            stimulus,
-        }) => run_file(alloc, file, process, stimulus, shelf, out, err),
+        Some(
+            Command::Run {
+                file,
+                process,
+                stimulus,
+            },
+        ) => run_file(alloc, file, process, stimulus, shelf, out, err),
         None => complain(
             err,
             &[b"usage: anvil compile FILE | run FILE PROC STIM\n"],

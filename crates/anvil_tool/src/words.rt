@@ -8,7 +8,9 @@ ghost use Rattle.anvil_tool.specs.Seen.{form_seen};
 #[derive(Clone, Copy)]
 pub enum Command<'a> {
     /// `compile FILE`.
-    Compile { file: &'a str },
+    Compile {
+        file: &'a str,
+    },
     /// `run FILE PROC STIM`.
     Run {
         file: &'a str,

@@ -32,7 +32,7 @@ module _ (p : Process) (rows : List Row) (n : ℕ) (row : Row) (inside : n < len
     (standing : Standing p rows n s w)
     (stands : (taken : List Row) → sim_stands.StandsAfter p taken s.state → sim_stands.StandsAfter p (taken ++ row ∷ []) later.state)
     (cells : (taken : List Row) → sim_stands.StandsAfter p taken s.state → (inputs : Inputs) → BeginsWith inputs (taken ++ row ∷ [])
-        → out.cells.items ≡ cells_shown (wires p inputs (history p inputs)) (length taken) 0 p.ports) where
+    → out.cells.items ≡ cells_shown (wires p inputs (history p inputs)) (length taken) 0 p.ports) where
   pub cells_now : out.cells.items ≡ cells_shown (wires_on p rows) n 0 p.ports
   cells_now =
       subst (λ t. out.cells.items ≡ cells_shown (wires_on p rows) t 0 p.ports) (long p rows n row inside is)

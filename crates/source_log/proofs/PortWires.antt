@@ -66,9 +66,10 @@ module _ (p : Process) (rows : List Row) (fit : (t : ℕ) → t < length rows �
       inside less = elim (past_or_within m) [
         | inl within ↦ rw within refl
         | inr past ↦
-          let none : full.ack m t ≡ false = no_ack m t less (grind (arith, nat_tests)) in
-          rw past (sym (ap (λ (b : Bool). full.valid m t && b) none ∙ and_false (full.valid m t)))
+            let none : full.ack m t ≡ false = no_ack m t less (grind (arith, nat_tests)) in
+            rw past (sym (ap (λ (b : Bool). full.valid m t && b) none ∙ and_false (full.valid m t)))
       ]
+
       by_cycle : (b : Bool) → nat_lt t (length rows) ≡ b → (b && (own.valid m t && own.ack m t)) ≡ (b && (full.valid m t && full.ack m t))
       by_cycle true is = inside (grind (arith, nat_tests))
       by_cycle false is = refl

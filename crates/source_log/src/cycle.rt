@@ -5,8 +5,8 @@ ghost use Rattle.core_term.specs.ProcessView.{port_of, process_of};
 ghost use Rattle.core_term.specs.Rows.{row_fits};
 ghost use Rattle.source_log.specs.Running.{IsReady, Standing, TakesCycle};
 
-use core_term::{CoreProc, OutRow, Row};
 use anvil_io::{Sink, SinkFault};
+use core_term::{CoreProc, OutRow, Row};
 use source_sim::Sim;
 use stim_text::{Seen, Watch, put_row};
 

@@ -121,15 +121,15 @@ returns-in-Ok-clause-every_length g c = λ loaded long fine.
     elim (load_asked c.args.file.now c.args.process.now c.args.stimulus.now (Tells (g.S.Shelf.told c.args.shelf.now)) loaded long.load long.asked) [
       | inl same ↦ absurd (past_given (g.S.Shelf.told c.args.shelf.now) (file_load c.args.file.now) c.deref.result.now given (subst (λ load. Exceeds (g.S.Shelf.told c.args.shelf.now load.name) load.limit) same long.past))
       | inr (same, (others, one, tells, has)) ↦
-        let same_bytes = told_loaded (g.S.Shelf.told c.args.shelf.now c.args.file.now) others c.deref.result.now tells.tells given.kept in
-        let has_here : HasProcess c.deref.result.now c.as_bytes.result.now = rw c.as_bytes.ensures.value (subst (λ b. HasProcess b c.args.process.now) (sym same_bytes) has) in
-        let memory = c.in-Err.ensures.every_process has_here in
-        let count = ap length one in
-        elim c.complain_refusal.ensures.status [
-          | inl refused ↦ absurd (c.complain_refusal.ensures.refused refused memory)
-          | inr (inl none) ↦ inr (inr (none, omega (arith, count)))
-          | inr (inr failed) ↦ inr (inl failed)
-        ]
+          let same_bytes = told_loaded (g.S.Shelf.told c.args.shelf.now c.args.file.now) others c.deref.result.now tells.tells given.kept in
+          let has_here : HasProcess c.deref.result.now c.as_bytes.result.now = rw c.as_bytes.ensures.value (subst (λ b. HasProcess b c.args.process.now) (sym same_bytes) has) in
+          let memory = c.in-Err.ensures.every_process has_here in
+          let count = ap length one in
+          elim c.complain_refusal.ensures.status [
+            | inl refused ↦ absurd (c.complain_refusal.ensures.refused refused memory)
+            | inr (inl none) ↦ inr (inr (none, omega (arith, count)))
+            | inr (inr failed) ↦ inr (inl failed)
+          ]
     ]
 
 pub returns-in-Ok-clause-refused : goal.returns-in-Ok-clause-refused
@@ -147,29 +147,35 @@ returns-in-Ok-clause-every_refusal g c = λ refusal first fine.
     let given : MayGive (g.S.Shelf.told c.args.shelf.now) (file_load c.args.file.now) c.deref.result.now = rw c.deref.ensures.value (record { kept = c.in-Ok.ensures.bytes; within = c.in-Ok.ensures.within }) in
     elim (refusal_told c.args.file.now c.args.process.now c.args.stimulus.now (Tells (g.S.Shelf.told c.args.shelf.now)) refusal first) [
       | inl (others, tells, refused) ↦
-        let same_bytes = told_loaded (g.S.Shelf.told c.args.shelf.now c.args.file.now) others c.deref.result.now tells.tells given.kept in
-        let here : IsProcessRefused c.deref.result.now c.as_bytes.result.now refusal = rw c.as_bytes.ensures.value (subst (λ b. IsProcessRefused b c.args.process.now refusal) (sym same_bytes) refused) in
-        elim c.complain_refusal.ensures.status [
-          | inl is ↦ elim (c.in-Err.ensures.every_refusal refusal here) [
+          let same_bytes = told_loaded (g.S.Shelf.told c.args.shelf.now c.args.file.now) others c.deref.result.now tells.tells given.kept in
+          let here : IsProcessRefused c.deref.result.now c.as_bytes.result.now refusal = rw c.as_bytes.ensures.value (subst (λ b. IsProcessRefused b c.args.process.now refusal) (sym same_bytes) refused) in
+          elim c.complain_refusal.ensures.status [
+            | inl is ↦ elim (c.in-Err.ensures.every_refusal refusal here) [
               | inl same ↦ inl (is, subst (λ one. Appends (g.E.Sink.held c.args.err.now) (g.E.Sink.held c.complain_refusal.new.err) (refusal_line one)) same (c.complain_refusal.ensures.whole (λ other. cc)))
               | inr memory ↦ absurd (c.complain_refusal.ensures.refused is memory)
             ]
-          | inr (inl none) ↦ inr (inl none)
-          | inr (inr failed) ↦ inr (inr (failed, record { same = refl; fine = refl }, record {
-              line = refusal_line c.in-Err.refusal;
-              one = elim (c.in-Err.ensures.every_refusal refusal here) [ | inl same ↦ inl (ap refusal_line same) | inr memory ↦ inr (ap refusal_line memory) ];
-              part = c.complain_refusal.ensures.part failed; cause = c.complain_refusal.ensures.cause failed }))
-        ]
+            | inr (inl none) ↦ inr (inl none)
+            | inr (inr failed) ↦ inr (inr (
+              failed,
+              record { same = refl; fine = refl },
+              record {
+                line = refusal_line c.in-Err.refusal;
+                one = elim (c.in-Err.ensures.every_refusal refusal here) [ inl same ↦ inl (ap refusal_line same) | inr memory ↦ inr (ap refusal_line memory) ];
+                part = c.complain_refusal.ensures.part failed;
+                cause = c.complain_refusal.ensures.cause failed;
+              },
+            ))
+          ]
       | inr (others, text, tells, tells_too, text_refused) ↦
-        let same_bytes = told_loaded (g.S.Shelf.told c.args.shelf.now c.args.file.now) others c.deref.result.now tells.tells given.kept in
-        let has : HasProcess others c.args.process.now = record { process = text_refused.process; of_file = text_refused.of_file } in
-        let has_here : HasProcess c.deref.result.now c.as_bytes.result.now = rw c.as_bytes.ensures.value (subst (λ b. HasProcess b c.args.process.now) (sym same_bytes) has) in
-        let memory = c.in-Err.ensures.every_process has_here in
-        elim c.complain_refusal.ensures.status [
-          | inl is ↦ absurd (c.complain_refusal.ensures.refused is memory)
-          | inr (inl none) ↦ inr (inl none)
-          | inr (inr failed) ↦ inr (inr (failed, record { same = refl; fine = refl }, record { line = refusal_line c.in-Err.refusal; one = inr (ap refusal_line memory); part = c.complain_refusal.ensures.part failed; cause = c.complain_refusal.ensures.cause failed }))
-        ]
+          let same_bytes = told_loaded (g.S.Shelf.told c.args.shelf.now c.args.file.now) others c.deref.result.now tells.tells given.kept in
+          let has : HasProcess others c.args.process.now = record { process = text_refused.process; of_file = text_refused.of_file } in
+          let has_here : HasProcess c.deref.result.now c.as_bytes.result.now = rw c.as_bytes.ensures.value (subst (λ b. HasProcess b c.args.process.now) (sym same_bytes) has) in
+          let memory = c.in-Err.ensures.every_process has_here in
+          elim c.complain_refusal.ensures.status [
+            | inl is ↦ absurd (c.complain_refusal.ensures.refused is memory)
+            | inr (inl none) ↦ inr (inl none)
+            | inr (inr failed) ↦ inr (inr (failed, record { same = refl; fine = refl }, record { line = refusal_line c.in-Err.refusal; one = inr (ap refusal_line memory); part = c.complain_refusal.ensures.part failed; cause = c.complain_refusal.ensures.cause failed }))
+          ]
     ]
 
 pub returns-in-Ok-clause-every_breach : goal.returns-in-Ok-clause-every_breach
@@ -179,7 +185,7 @@ returns-in-Ok-clause-every_breach g c = λ whole line broken fine out_fine err_f
     let same_bytes = told_loaded (g.S.Shelf.told c.args.shelf.now c.args.file.now) others c.deref.result.now tells.tells given.kept in
     let has : HasProcess others c.args.process.now = record { process = log.run.process; of_file = log.run.is.of_file } in
     let has_here : HasProcess c.deref.result.now c.as_bytes.result.now = rw c.as_bytes.ensures.value (subst (λ b. HasProcess b c.args.process.now) (sym same_bytes) has) in
-        let memory = c.in-Err.ensures.every_process has_here in
+    let memory = c.in-Err.ensures.every_process has_here in
     elim c.complain_refusal.ensures.status [
       | inl is ↦ absurd (c.complain_refusal.ensures.refused is memory)
       | inr (inl none) ↦ inr none
@@ -193,7 +199,7 @@ returns-in-Ok-clause-complete g c = λ loaded ends fine out_fine err_fine.
     let same_bytes = told_loaded (g.S.Shelf.told c.args.shelf.now c.args.file.now) others c.deref.result.now tells.tells given.kept in
     let has : HasProcess others c.args.process.now = record { process = run.process; of_file = run.is.of_file } in
     let has_here : HasProcess c.deref.result.now c.as_bytes.result.now = rw c.as_bytes.ensures.value (subst (λ b. HasProcess b c.args.process.now) (sym same_bytes) has) in
-        let memory = c.in-Err.ensures.every_process has_here in
+    let memory = c.in-Err.ensures.every_process has_here in
     elim c.complain_refusal.ensures.status [
       | inl is ↦ absurd (c.complain_refusal.ensures.refused is memory)
       | inr (inl none) ↦ inr none
@@ -203,15 +209,20 @@ returns-in-Ok-clause-complete g c = λ loaded ends fine out_fine err_fine.
 pub returns-in-Ok-clause-write_fault : goal.returns-in-Ok-clause-write_fault
 returns-in-Ok-clause-write_fault g c = λ failed.
     let given : MayGive (g.S.Shelf.told c.args.shelf.now) (file_load c.args.file.now) c.deref.result.now = rw c.deref.ensures.value (record { kept = c.in-Ok.ensures.bytes; within = c.in-Ok.ensures.within }) in
-    inr (inl (record { same = refl; fine = refl }, record {
-      line = refusal_line c.in-Err.refusal;
-      one = elim (memory_or_not c.in-Err.refusal) [
-        | inl memory ↦ subst (λ one. IsLine (g.S.Shelf.told c.args.shelf.now) (Some (run_form c.args.file.now c.args.process.now c.args.stimulus.now)) (refusal_line one)) (sym memory) (of_memory (run_form c.args.file.now c.args.process.now c.args.stimulus.now))
-        | inr not_memory ↦
-          let refused : IsProcessRefused c.deref.result.now c.args.process.now c.in-Err.refusal = rw c.as_bytes.ensures.value at c.in-Err.ensures.refused not_memory in
-          of_refusal (run_form c.args.file.now c.args.process.now c.args.stimulus.now) c.in-Err.refusal (record { loaded = c.deref.result.now ∷ []; rest = stimulus_load c.args.stimulus.now ∷ []; reached = reached_file c.args.file.now c.args.process.now c.args.stimulus.now (MayGive (g.S.Shelf.told c.args.shelf.now)) c.deref.result.now given; refuses = refused })
-      ];
-      part = c.complain_refusal.ensures.part failed; cause = c.complain_refusal.ensures.cause failed }))
+    inr (inl (
+      record { same = refl; fine = refl },
+      record {
+        line = refusal_line c.in-Err.refusal;
+        one = elim (memory_or_not c.in-Err.refusal) [
+          | inl memory ↦ subst (λ one. IsLine (g.S.Shelf.told c.args.shelf.now) (Some (run_form c.args.file.now c.args.process.now c.args.stimulus.now)) (refusal_line one)) (sym memory) (of_memory (run_form c.args.file.now c.args.process.now c.args.stimulus.now))
+          | inr not_memory ↦
+              let refused : IsProcessRefused c.deref.result.now c.args.process.now c.in-Err.refusal = rw c.as_bytes.ensures.value at c.in-Err.ensures.refused not_memory in
+              of_refusal (run_form c.args.file.now c.args.process.now c.args.stimulus.now) c.in-Err.refusal (record { loaded = c.deref.result.now ∷ []; rest = stimulus_load c.args.stimulus.now ∷ []; reached = reached_file c.args.file.now c.args.process.now c.args.stimulus.now (MayGive (g.S.Shelf.told c.args.shelf.now)) c.deref.result.now given; refuses = refused })
+        ];
+        part = c.complain_refusal.ensures.part failed;
+        cause = c.complain_refusal.ensures.cause failed;
+      },
+    ))
 
 -- The file was not loaded.
 
@@ -241,11 +252,11 @@ returns-clause-every_length g c = λ loaded long fine.
     elim (load_asked c.args.file.now c.args.process.now c.args.stimulus.now (Tells (g.S.Shelf.told c.args.shelf.now)) loaded long.load long.asked) [
       | inl same ↦ absurd (within_or_past (g.S.Shelf.told c.args.shelf.now c.args.file.now) longest_file (subst (λ load. Exceeds (g.S.Shelf.told c.args.shelf.now load.name) load.limit) same long.past) (search rules))
       | inr (same, (others, one, tells, has)) ↦
-        let count = ap length one in
-        elim c.complain.ensures.status [
-          | inl memory ↦ inr (inr (memory, omega (arith, count)))
-          | inr failed ↦ inr (inl failed)
-        ]
+          let count = ap length one in
+          elim c.complain.ensures.status [
+            | inl memory ↦ inr (inr (memory, omega (arith, count)))
+            | inr failed ↦ inr (inl failed)
+          ]
     ]
 
 pub returns-clause-write_fault : goal.returns-clause-write_fault

@@ -57,8 +57,11 @@ returns-in-Ok-Some-clause-every_breach g c = λ whole line stops out_fine err_fi
     let once = rows_once p.ports c.args.text.now (ports_fit c.args.proc.now.name c.args.proc.now.ports.items c.args.proc.now.regs.items c.args.proc.now.threads.items c.args.proc.now.sized) in
     let same = stops_once p c.args.text.now _ whole _ line once here stops in
     elim c.complain_breach.ensures.status [
-      | inl is ↦ inl (is, subst (Appends (g.O.Sink.held c.args.out.now) (g.O.Sink.held c.put_log.new.out)) same.0 stopped.appended,
-        subst (Appends (g.E.Sink.held c.args.err.now) (g.E.Sink.held c.complain_breach.new.err)) same.1 (c.complain_breach.ensures.whole (λ failed. cc)))
+      | inl is ↦ inl (
+        is,
+        subst (Appends (g.O.Sink.held c.args.out.now) (g.O.Sink.held c.put_log.new.out)) same.0 stopped.appended,
+        subst (Appends (g.E.Sink.held c.args.err.now) (g.E.Sink.held c.complain_breach.new.err)) same.1 (c.complain_breach.ensures.whole (λ failed. cc)),
+      )
       | inr failed ↦ absurd (no_rise _ _ err_fine (c.complain_breach.ensures.cause failed))
     ]
 

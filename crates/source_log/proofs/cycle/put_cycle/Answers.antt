@@ -34,9 +34,11 @@ returns-in-Broken-clause-cycle g c = λ rows n inside is standing.
     → c.step.new.out.cells.items ≡ cells_shown (wires p inputs (history p inputs)) (length taken) 0 p.ports =
     subst (λ (q : Process). (taken : List Row) → sim_stands.StandsAfter q taken c.args.sim.now.state → (inputs : Inputs) → BeginsWith inputs (taken ++ row ∷ [])
     → c.step.new.out.cells.items ≡ cells_shown (wires q inputs (history q inputs)) (length taken) 0 q.ports) c.requires.ready.same c.step.ensures.cells in
-    let fits = out_fits p rows n row inside is c.args.sim.now c.step.new.self c.args.watch.now c.step.new.out standing stands cells in
-    (breach_now p rows n row inside is c.args.sim.now c.step.new.self c.args.watch.now c.step.new.out standing stands cells c.in-Broken.port
-    (c.step-2.ensures.broken p (take n rows) standing.outs c.in-Broken.port c.requires.row fits standing.watched c.in-Broken.is), record { same = refl; fine = refl })
+    let fits = out_fits p rows n row inside is c.args.sim.now c.step.new.self c.args.watch.now c.step.new.out standing stands cells in (
+      breach_now p rows n row inside is c.args.sim.now c.step.new.self c.args.watch.now c.step.new.out standing stands cells c.in-Broken.port
+          (c.step-2.ensures.broken p (take n rows) standing.outs c.in-Broken.port c.requires.row fits standing.watched c.in-Broken.is),
+      record { same = refl; fine = refl },
+    )
 
 pub returns-in-Ok-clause-cycle : goal.returns-in-Ok-clause-cycle
 returns-in-Ok-clause-cycle g c = λ rows n inside is standing.

@@ -35,12 +35,15 @@ loop-index-preserved g c =
     let (ready, standing, kept, appended, fine) = c.loop-index.invariant in
     let cycle : IsCycle p c.args.rows.now n Kept c.put_cycle.new.sim c.put_cycle.new.watch (g.O.Sink.held c.loop-index.out) (g.O.Sink.held c.put_cycle.new.out) (g.O.Sink.faults c.loop-index.out) (g.O.Sink.faults c.put_cycle.new.out) =
     rw c.in-Ok-Kept.field-0-is at c.in-Ok-Kept.ensures.cycle c.args.rows.now n (omega arith) c.index-rows-index.is standing in
-    let (stands, kept_now, line, same) = cycle in
-    (c.put_cycle.ensures.ready, stands, kept_now,
-    subst (Appends (g.O.Sink.held c.args.out.now) (g.O.Sink.held c.put_cycle.new.out)) (sym (log_more p c.args.rows.now n))
-    (appends_then (g.O.Sink.held c.args.out.now) (g.O.Sink.held c.loop-index.out) (g.O.Sink.held c.put_cycle.new.out) (log_to p c.args.rows.now n)
-    (log_line p (wires_on p c.args.rows.now) (registers_on p c.args.rows.now) n) appended line),
-    same ∙ fine)
+    let (stands, kept_now, line, same) = cycle in (
+      c.put_cycle.ensures.ready,
+      stands,
+      kept_now,
+      subst (Appends (g.O.Sink.held c.args.out.now) (g.O.Sink.held c.put_cycle.new.out)) (sym (log_more p c.args.rows.now n))
+          (appends_then (g.O.Sink.held c.args.out.now) (g.O.Sink.held c.loop-index.out) (g.O.Sink.held c.put_cycle.new.out) (log_to p c.args.rows.now n)
+          (log_line p (wires_on p c.args.rows.now) (registers_on p c.args.rows.now) n) appended line),
+      same ∙ fine,
+    )
 
 pub returns : goal.returns
 returns g c =
