@@ -6,7 +6,7 @@ use std::test::Fail;
 
 const COUNTER: &[u8] = b"proc c() { reg a : logic[8]; loop { set a := *a + 8'd1 >> cycle 2 } }";
 
-const USAGE: &[u8] = b"usage: anvil compile FILE | run FILE PROC STIM\n";
+const USAGE: &[u8] = b"usage: anvil check FILE | compile FILE | run FILE PROC STIM\n";
 
 /// The module of `COUNTER`, line by line.
 const MODULE: [&[u8]; 40] = [
@@ -336,6 +336,6 @@ fn the_put_of_a_line_fails(rt: HostRuntime) -> Result<(), Fail> {
     let usage = run(rt.alloc(), &["help"], COUNTER, faults)?;
     assert!(rt; usage.status == Status::WriteFault);
     assert_eq!(rt; usage.out.bytes(), b"".as_slice());
-    assert_eq!(rt; usage.err.bytes(), b"usage: anvil compile FI".as_slice());
+    assert_eq!(rt; usage.err.bytes(), b"usage: anvil check FILE | comp".as_slice());
     Ok(())
 }

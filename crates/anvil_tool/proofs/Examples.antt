@@ -28,5 +28,5 @@ of_widths = refl
 of_the_builder : refusal_line not_built ≡ codes "refused: NotBuilt\n"
 of_the_builder = refl
 
-of_usage : usage_line ≡ codes "usage: anvil compile FILE | run FILE PROC STIM\n"
+of_usage : usage_line ≡ codes "usage: anvil check FILE | compile FILE | run FILE PROC STIM\n"
 of_usage = refl

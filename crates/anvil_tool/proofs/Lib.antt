@@ -8,10 +8,13 @@ pub mod OneRefusal
 pub mod Processes
 pub mod Stimuli
 pub mod Runs
+-- Files that break a timing rule.
+pub mod Ruled
 -- The text of the modules.
 pub mod Written
--- The form that loads one file; that at most one answer has its cause.
+-- The forms that load one file, and two; that at most one answer has its cause.
 pub mod OneFile
+pub mod OneCheck
 pub mod OneRun
 pub mod OneAnswer
 -- Examples.

@@ -8,6 +8,7 @@ use Rattle.std.specs.declared.alloc.Global.{Global}
 
 -- the commands
 pub data Command : Type 0 where
+  check : Command
   compile : Command
   run : Command
 
@@ -26,11 +27,13 @@ longest_stimulus = 16777216
 
 -- a command's own word
 abbrev pub word_of : Command → List ℕ
+word_of check = codes "check"
 word_of compile = codes "compile"
 word_of run = codes "run"
 
 -- a command's parts, in order
 abbrev pub parts_of : Command → List Part
+parts_of check = (record { label = codes "FILE"; limit = Some longest_file }) ∷ []
 parts_of compile = (record { label = codes "FILE"; limit = Some longest_file }) ∷ []
 parts_of run =
     (record { label = codes "FILE"; limit = Some longest_file }) ∷ (record { label = codes "PROC"; limit = None })
@@ -38,7 +41,7 @@ parts_of run =
 
 -- all commands, in the order of the usage line
 abbrev pub commands : List Command
-commands = compile ∷ run ∷ []
+commands = check ∷ compile ∷ run ∷ []
 
 -- The usage line.
 
@@ -114,6 +117,10 @@ abbrev pub MayLoad : (List ℕ → Type 0) → Form → Type 0
 MayLoad may_ask form = AllByRecursion (λ load. may_ask load.name) (loads_of form)
 
 -- The form of each command, of its operands.
+
+-- `check FILE`
+abbrev pub check_form : List ℕ → Form
+check_form file = record { command = check; operands = file ∷ [] }
 
 -- `compile FILE`
 abbrev pub compile_form : List ℕ → Form

@@ -6,6 +6,8 @@ pub mod FileText
 pub mod Output
 pub mod Refused
 pub mod Run
+pub mod Check
+pub mod Ruled
 pub mod Stages
 pub mod Answer
 pub mod Running

@@ -17,6 +17,8 @@ use Rattle.channel_classes.specs.ClassChecks.{checks_of_classes}
 use Rattle.core_file.specs.declared.error.NameErr.{NameErr}
 use Rattle.core_file.specs.declared.error.NameErr.TheVariants as name
 use Rattle.core_file.specs.ProcessChecks.{checks_of_processes}
+use Rattle.core_term.specs.declared.rules.Rule.{Rule}
+use Rattle.core_term.specs.declared.rules.Rule.TheVariants as rule
 use Rattle.plain_file.specs.Plain.{Counter, IsPlainFile}
 use Rattle.anvil_tool.specs.declared.refusal.Code.{Code}
 use Rattle.anvil_tool.specs.declared.refusal.Code.TheVariants as code
@@ -65,6 +67,16 @@ of_processes (name.EndpointShared at) = Placed code.EndpointShared at
 of_processes (name.RegisterShared at) = Placed code.RegisterShared at
 of_processes (name.NotTail at) = Placed code.NotTail at
 of_processes name.NoMemory = NoMemory
+
+-- a timing rule
+abbrev pub code_of : Rule → Code
+code_of rule.V2 = code.V2
+code_of rule.V3 = code.V3
+code_of rule.V4 = code.V4
+code_of rule.V5 = code.V5
+code_of rule.V6 = code.V6
+code_of rule.V7 = code.V7
+code_of rule.V8 = code.V8
 
 -- the refusal of a file that is no plain one: it has no place
 abbrev pub not_built : Refusal
@@ -124,6 +136,13 @@ spelling code.WrongSide = codes "WrongSide"
 spelling code.EndpointShared = codes "EndpointShared"
 spelling code.RegisterShared = codes "RegisterShared"
 spelling code.NotTail = codes "NotTail"
+spelling code.V2 = codes "V2"
+spelling code.V3 = codes "V3"
+spelling code.V4 = codes "V4"
+spelling code.V5 = codes "V5"
+spelling code.V6 = codes "V6"
+spelling code.V7 = codes "V7"
+spelling code.V8 = codes "V8"
 spelling code.NotBuilt = codes "NotBuilt"
 spelling code.NoProcess = codes "NoProcess"
 spelling code.BadStim = codes "BadStim"

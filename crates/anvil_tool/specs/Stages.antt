@@ -7,9 +7,10 @@ use Rattle.std.specs.Prelude.{ℕ, List, [], ◌∷◌}
 use Rattle.anvil_tree.specs.Tree.{File}
 use Rattle.plain_file.specs.Plain.{Counter, IsPlainFile}
 use Rattle.anvil_tool.specs.declared.refusal.Refusal.{Refusal}
-use Rattle.anvil_tool.specs.Form.{Command, compile, run, Form}
+use Rattle.anvil_tool.specs.Form.{Command, check, compile, run, Form}
 use Rattle.anvil_tool.specs.FileText.{IsCheckedText}
 use Rattle.anvil_tool.specs.Output.{IsOutput}
+use Rattle.anvil_tool.specs.Check.{IsCheckRefused, IsAcceptedText, IsAcceptedLine}
 use Rattle.anvil_tool.specs.Refused.{IsRefused}
 use Rattle.anvil_tool.specs.Run.{IsProcessRefused, IsTextRefused, HasProcess, HasRun, IsLog, IsLogFront, IsBrokenLog}
 
@@ -22,6 +23,23 @@ pub record Stages : Type 1 where
   pub begins : List (List ℕ) → List ℕ → Type 0
   -- a text that stops early, at a promise that is broken, and the line that says so
   pub breaks : List (List ℕ) → List ℕ → List ℕ → Type 0
+
+-- `check`: FILE keeps the timing rules, or is refused.
+
+abbrev pub check_refuses : List (List ℕ) → Refusal → Type 0
+check_refuses [] refusal = ⊥
+check_refuses (file ∷ []) refusal = IsCheckRefused file refusal
+check_refuses (file ∷ other ∷ more) refusal = ⊥
+
+abbrev pub check_goes_on : List (List ℕ) → Type 0
+check_goes_on [] = Unit {0}
+check_goes_on (file ∷ []) = IsAcceptedText file
+check_goes_on (file ∷ other ∷ more) = ⊥
+
+abbrev pub check_writes : List (List ℕ) → List ℕ → Type 0
+check_writes [] text = ⊥
+check_writes (file ∷ []) text = IsAcceptedLine file text
+check_writes (file ∷ other ∷ more) text = ⊥
 
 -- `compile`: FILE has modules, or is refused.
 
@@ -87,6 +105,13 @@ name_in (file ∷ name ∷ more) = name
 
 -- The stages of each command, which may ask for the words of the form too.
 abbrev pub stages_by : Command → List (List ℕ) → Stages
+stages_by check operands = record {
+  refuses = check_refuses;
+  goes_on = check_goes_on;
+  writes = check_writes;
+  begins = check_writes;
+  breaks = λ loaded text line. ⊥;
+}
 stages_by compile operands = record {
   refuses = compile_refuses;
   goes_on = compile_goes_on;

@@ -4,6 +4,7 @@
 //! were loaded and of what stands on the sinks.
 #![tactic(auto)]
 
+mod check;
 mod compile;
 mod complain;
 mod front;
@@ -11,6 +12,7 @@ mod laws;
 mod modules;
 mod process;
 mod refusal;
+mod rules;
 mod run;
 mod status;
 mod stimulus;

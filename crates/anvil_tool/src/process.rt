@@ -13,8 +13,8 @@ use crate::refusal::{Code, Refusal};
 use core_term::{CoreFile, CoreProc};
 use std::alloc::Global;
 
-// The core file of the file that the bytes spell, or why there is none.
-fn core_of_bytes(alloc: Global, bytes: &[u8]) -> Result<CoreFile, Refusal>
+/// The core file of the file that the bytes spell, or why there is none.
+pub(crate) fn core_of_bytes(alloc: Global, bytes: &[u8]) -> Result<CoreFile, Refusal>
     requires { length bytes.now ≤ 2 ^ 20 }
     ensures core { IfOk result (λ core. (file : tree.File) × IsCheckedText bytes.now file
         × (map placed_of core.procs.items ≡ core_file (classes_of file) file)) }

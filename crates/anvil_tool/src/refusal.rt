@@ -1,10 +1,11 @@
 //! Why a command refuses what it loaded, and the code that tells it.
 ghost use Rattle.std.specs.Prelude.{◌≡◌};
-ghost use Rattle.anvil_tool.specs.Refused.{of_classes, of_lexer, of_parser, of_processes, spelling};
+ghost use Rattle.anvil_tool.specs.Refused.{code_of, of_classes, of_lexer, of_parser, of_processes, spelling};
 
 use anvil_lexer::LexErr;
 use anvil_parser::ParseErr;
 use channel_classes::ClassErr;
+use core_term::Rule;
 use width_check::NameErr;
 
 /// What is refused.
@@ -32,6 +33,13 @@ pub(crate) enum Code {
     EndpointShared,
     RegisterShared,
     NotTail,
+    V2,
+    V3,
+    V4,
+    V5,
+    V6,
+    V7,
+    V8,
     NotBuilt,
     NoProcess,
     BadStim,
@@ -80,6 +88,13 @@ pub(crate) fn spelling(code: Code) -> &'static [u8]
         Code::EndpointShared => b"EndpointShared",
         Code::RegisterShared => b"RegisterShared",
         Code::NotTail => b"NotTail",
+        Code::V2 => b"V2",
+        Code::V3 => b"V3",
+        Code::V4 => b"V4",
+        Code::V5 => b"V5",
+        Code::V6 => b"V6",
+        Code::V7 => b"V7",
+        Code::V8 => b"V8",
         Code::NotBuilt => b"NotBuilt",
         Code::NoProcess => b"NoProcess",
         Code::BadStim => b"BadStim",
@@ -151,4 +166,19 @@ pub(crate) fn of_processes(fault: &NameErr) -> Refusal
         NameErr::NoMemory => return Refusal::NoMemory,
     };
     Refusal::Placed { code, at }
+}
+
+/// The code of a timing rule.
+pub(crate) fn code_of(rule: Rule) -> Code
+    ensures { result ≡ code_of rule }
+{
+    match rule {
+        Rule::V2 => Code::V2,
+        Rule::V3 => Code::V3,
+        Rule::V4 => Code::V4,
+        Rule::V5 => Code::V5,
+        Rule::V6 => Code::V6,
+        Rule::V7 => Code::V7,
+        Rule::V8 => Code::V8,
+    }
 }

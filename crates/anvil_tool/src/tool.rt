@@ -7,6 +7,7 @@ ghost use Rattle.anvil_tool.specs.Answer.{Breaks, BreachFailed, Ends, HasNoFault
 ghost use Rattle.anvil_tool.specs.Form.{Form, MayLoad, form_of, usage_line, words_of};
 ghost use Rattle.anvil_tool.specs.Refused.{IsLineOf, no_memory_line, refusal_line};
 
+use crate::check::check_file;
 use crate::compile::compile_file;
 use crate::complain::complain;
 use crate::run::run_file;
@@ -15,7 +16,7 @@ use crate::words::{Command, form_of};
 use anvil_io::{Shelf, Sink};
 use std::alloc::Global;
 
-/// Does what the words say: `compile FILE` puts the modules of a plain file's processes to `out`, in the order of the file, and
+/// Does what the words say: `check FILE` puts a line where a file keeps the timing rules, `compile FILE` puts the modules of a plain file's processes to `out`, in the order of the file, and
 /// `run FILE PROC STIM` the log of a process on the rows of a stimulus.
 ///
 /// `words` leaves out the program's own name. The shelf is asked for the files of the form alone, so each has to be one that
@@ -110,6 +111,7 @@ pub fn run_tool<S: Shelf, O: Sink, E: Sink>(
         → (result ≡ Status.Done) ⊎ (result ≡ Status.NoMemory)) }
 {
     match form_of(words) {
+        Some(Command::Check { file }) => check_file(alloc, file, shelf, out, err),
         Some(Command::Compile { file }) => compile_file(alloc, file, shelf, out, err),
         Some(
             Command::Run {
@@ -120,7 +122,7 @@ pub fn run_tool<S: Shelf, O: Sink, E: Sink>(
         ) => run_file(alloc, file, process, stimulus, shelf, out, err),
         None => complain(
             err,
-            &[b"usage: anvil compile FILE | run FILE PROC STIM\n"],
+            &[b"usage: anvil check FILE | compile FILE | run FILE PROC STIM\n"],
             Status::Usage,
         ),
     }

@@ -7,6 +7,10 @@ ghost use Rattle.anvil_tool.specs.Seen.{form_seen};
 /// A command with its operands.
 #[derive(Clone, Copy)]
 pub enum Command<'a> {
+    /// `check FILE`.
+    Check {
+        file: &'a str,
+    },
     /// `compile FILE`.
     Compile {
         file: &'a str,
@@ -24,7 +28,7 @@ pub fn form_of(words: &[String]) -> Option<Command<'_>>
     ensures { option_map form_seen result ≡ form_of (words_of words.now) }
 {
     match words {
-        [command, file] => compile_words(command.as_str(), file.as_str()),
+        [command, file] => file_words(command.as_str(), file.as_str()),
         [command, file, process, stimulus] => run_words(
             command.as_str(),
             file.as_str(),
@@ -36,10 +40,14 @@ pub fn form_of(words: &[String]) -> Option<Command<'_>>
 }
 
 // Two words.
-fn compile_words<'a>(command: &'a str, file: &'a str) -> Option<Command<'a>>
+fn file_words<'a>(command: &'a str, file: &'a str) -> Option<Command<'a>>
     ensures { option_map form_seen result ≡ form_of (command.now ∷ file.now ∷ []) }
 {
-    if command == "compile" && is_operand(file.as_bytes()) {
+    if !is_operand(file.as_bytes()) {
+        None
+    } else if command == "check" {
+        Some(Command::Check { file })
+    } else if command == "compile" {
         Some(Command::Compile { file })
     } else {
         None

@@ -46,7 +46,7 @@ numbers v w (inr (same, inl less)) = inr (same, inl less)
 numbers v w (inr (same, inr (thread, inl less))) = inr (same, inr (thread, inl less))
 numbers v w (inr (same, inr (thread, inr (rule, rest)))) = inr (same, inr (thread, inr (ap rule_number rule, rest)))
 
-never_back : (v w : Broken) → ComesBefore v w → ComesBefore w v → ⊥
+pub never_back : (v w : Broken) → ComesBefore v w → ComesBefore w v → ⊥
 never_back v w before after =
     one_way v.process v.thread (rule_number v.rule) v.first v.second w.process w.thread (rule_number w.rule) w.first w.second (numbers v w before) (numbers w v after)
 

@@ -1,0 +1,185 @@
+-- Files that break a timing rule, and files that keep all.
+--
+-- The claim: bytes have one refusal of `check` at most, and none where they spell an accepted file. The argument: a file has one
+-- first violation, since of two each would come before the other, and each of its acts has one place; and an accepted file has
+-- none. What the check of the code refuses is a core file, and that is the core file of the tree.
+use Rattle.std.proofs.Common.{◌≡◌, ◌≢◌, ◌∙◌, ◌⊎◌, inl, inr, ℕ, List, [], ◌∷◌, map, slice_get, Option, Some, refl, ap, sym, subst}
+use Rattle.std.specs.Prelude.{Result, Ok, Err, MatchResult, IfErr, OnOk}
+use Rattle.std.proofs.lemmas.Option.{slice_get-map, same_Some}
+use Rattle.anvil_tree.specs.Tree.{File}
+use Rattle.channel_classes.specs.Classes.{classes_of}
+use Rattle.core_file.specs.CoreFile.{Placed, placed_of, core_file}
+use Rattle.core_term.specs.declared.process.CoreProc.{CoreProc}
+use Rattle.core_term.specs.declared.term.CoreTerm.{CoreTerm}
+use Rattle.core_term.specs.AcceptedFile.{file_of, AllRunSafely}
+use Rattle.core_term.specs.Process.{Process}
+use Rattle.core_term.specs.View.{places_of}
+use Rattle.core_term.specs.Violations.{Broken, ComesBefore, IsBroken, HasNoViolations}
+use Rattle.timing_check.specs.OfFile.{IsFirstBroken}
+use Rattle.timing_check.specs.Refusal.{IsPlace, IsRejection}
+use Rattle.timing_check.proofs.Heads.{never_back}
+use Rattle.anvil_tool.specs.declared.refusal.Refusal.{Refusal}
+use Rattle.anvil_tool.specs.declared.refusal.Refusal.TheVariants as variant
+use Rattle.anvil_tool.specs.declared.refusal.Refusal.TheVariants.{NoMemory, Paired}
+use Rattle.anvil_tool.specs.FileText.{IsCheckedText}
+use Rattle.anvil_tool.specs.Refused.{IsFileRefused, code_of, refusal_line, no_memory_line}
+use Rattle.anvil_tool.specs.Check.{placed_in, processes_in, IsPlaceIn, IsRejected, IsCheckRefused, IsCheckLine, by_file, by_rules, IsAcceptedText}
+use Rattle.anvil_tool.specs.Ruled.{IsRejectedCore}
+use Rattle.anvil_tool.proofs.OneRefusal.{one_file, file_refused_once, checked_or_refused}
+
+-- One first violation.
+
+pub first_once : (file : List Process) (one other : Broken) → IsFirstBroken file one → IsFirstBroken file other → one ≡ other
+first_once file one other is is_too = elim (is.first other is_too.broken) [
+  | inl same ↦ sym same
+  | inr before ↦ by_other before (is_too.first one is.broken)
+]
+  where
+    by_other : ComesBefore one other → (one ≡ other) ⊎ ComesBefore other one → one ≡ other
+    by_other before (inl same) = same
+    by_other before (inr after) = absurd (never_back one other before after)
+
+place_once : (all : List Placed) (process thread site at also : ℕ) → IsPlaceIn all process thread site at → IsPlaceIn all process thread site also → at ≡ also
+place_once all process thread site at also (placed, process_at, places, thread_at, is) (other, other_at, others, others_at, is_too) =
+    let same : placed ≡ other = same_Some placed other (sym process_at ∙ other_at) in
+    let same_places : places ≡ others = same_Some places others (sym thread_at ∙ (ap (λ (one : Placed). slice_get one.places thread) same ∙ others_at)) in
+    same_Some at also (sym is ∙ (ap (λ (list : List ℕ). slice_get list site) same_places ∙ is_too))
+
+place_of : (all : List Placed) (one other : Broken) (at : ℕ) (site : Broken → ℕ) → other ≡ one → IsPlaceIn all other.process other.thread (site other) at → IsPlaceIn all one.process one.thread (site one) at
+place_of all one other at site same is = subst (λ (v : Broken). IsPlaceIn all v.process v.thread (site v) at) same is
+
+pub rejected_once : (file : File) (one other : Refusal) → IsRejected file one → IsRejected file other → one ≡ other
+rejected_once file one other first second =
+    let same : second.violation ≡ first.violation = first_once (processes_in file) second.violation first.violation second.is_first first.is_first in
+    let at : first.at ≡ second.at = place_once (placed_in file) first.violation.process first.violation.thread first.violation.first first.at second.at first.first_at
+    (place_of (placed_in file) first.violation second.violation second.at (λ v. v.first) same second.first_at) in
+    let also : first.other ≡ second.other = place_once (placed_in file) first.violation.process first.violation.thread first.violation.second first.other second.other first.second_at
+    (place_of (placed_in file) first.violation second.violation second.other (λ v. v.second) same second.second_at) in
+    first.is ∙ (rw (at, also, ← same) refl ∙ sym second.is)
+
+-- An accepted file has none.
+pub accepted_or_rejected : (file : File) (refusal : Refusal) → HasNoViolations (processes_in file) → IsRejected file refusal → ⊥
+accepted_or_rejected file refusal none rejected =
+    let v = rejected.violation in
+    let broken = rejected.is_first.broken in
+    elim (none.whole v.process v.thread broken.process broken.thread broken.is_process broken.is_thread v.rule v.first v.second broken.claim broken.demanded) [
+      | inl holds ↦ broken.fails holds
+      | inr has ↦ has
+    ]
+
+-- Refusals of bytes.
+
+pub check_refused_once : (bytes : List ℕ) (one other : Refusal) → IsCheckRefused bytes one → IsCheckRefused bytes other → one ≡ other
+check_refused_once bytes one other (by_file told first) (by_file found second) = file_refused_once bytes one other first second
+check_refused_once bytes one other (by_file told first) (by_rules file found text second) = absurd (checked_or_refused bytes file one text first)
+check_refused_once bytes one other (by_rules file told text first) (by_file found second) = absurd (checked_or_refused bytes file other text second)
+check_refused_once bytes one other (by_rules file told text first) (by_rules file_too found text_too second) =
+    rejected_once file one other first (subst (λ f. IsRejected f other) (sym (one_file bytes file file_too text.spelled text_too.spelled)) second)
+
+pub accepted_or_refused : (bytes : List ℕ) (refusal : Refusal) → IsCheckRefused bytes refusal → IsAcceptedText bytes → ⊥
+accepted_or_refused bytes refusal (by_file told first) accepted = checked_or_refused bytes accepted.file refusal accepted.spelled first
+accepted_or_refused bytes refusal (by_rules file told text first) accepted =
+    accepted_or_rejected file refusal (subst (λ f. HasNoViolations (processes_in f)) (one_file bytes accepted.file file accepted.spelled.spelled text.spelled) accepted.accepted) first
+
+-- From core files of the code.
+
+processes_same : (procs : List CoreProc) → map (λ (placed : Placed). placed.process) (map placed_of procs) ≡ file_of procs
+processes_same [] = refl
+processes_same (proc ∷ procs) = ap (λ rest. (placed_of proc).process ∷ rest) (processes_same procs)
+
+place_there : (procs : List CoreProc) (process thread site at : ℕ) → IsPlace procs process thread site at → IsPlaceIn (map placed_of procs) process thread site at
+place_there procs process thread site at (proc, proc_at, core, core_at, is) = (
+  placed_of proc,
+  slice_get-map placed_of procs process ∙ rw proc_at refl,
+  places_of core,
+  slice_get-map places_of proc.threads.items thread ∙ rw core_at refl,
+  is,
+)
+
+module _ (file : File) (procs : List CoreProc) (core : map placed_of procs ≡ core_file (classes_of file) file) where
+  pub processes_are : file_of procs ≡ processes_in file
+  processes_are = sym (processes_same procs) ∙ ap (λ all. map (λ (placed : Placed). placed.process) all) core
+
+  pub rejected_by : (refusal : Refusal) → IsRejectedCore procs refusal → IsRejected file refusal
+  rejected_by refusal of_core =
+      let rejection = of_core.rejected in
+      let v = rejection.violation in
+      record {
+        violation = v;
+        is_first = subst (λ processes. IsFirstBroken processes v) processes_are rejection.is_first;
+        at = of_core.at;
+        other = of_core.other;
+        first_at = subst (λ all. IsPlaceIn all v.process v.thread v.first of_core.at) core (place_there procs v.process v.thread v.first of_core.at rejection.first_at);
+        second_at = subst (λ all. IsPlaceIn all v.process v.thread v.second of_core.other) core (place_there procs v.process v.thread v.second of_core.other rejection.second_at);
+        is = of_core.is ∙ ap (λ rule. Paired (code_of rule) of_core.at of_core.other) rejection.rule_is;
+      }
+
+  pub accepted_by : (bytes : List ℕ) → IsCheckedText bytes file → HasNoViolations (file_of procs) → AllRunSafely (file_of procs) → IsAcceptedText bytes
+  accepted_by bytes text none safe = record {
+    file = file;
+    spelled = text;
+    accepted = subst HasNoViolations processes_are none;
+    safe = subst AllRunSafely processes_are safe;
+  }
+
+-- What is told where there is no core file.
+pub told_by_core : (bytes : List ℕ) (found : Refusal) → ((file : File) → IsCheckedText bytes file → found ≡ NoMemory)
+    → ((refusal : Refusal) → IsFileRefused bytes refusal → (found ≡ refusal) ⊎ (found ≡ NoMemory))
+    → (refusal : Refusal) → IsCheckRefused bytes refusal → (found ≡ refusal) ⊎ (found ≡ NoMemory)
+told_by_core bytes found no_file each refusal (by_file told of_file) = each refusal of_file
+told_by_core bytes found no_file each refusal (by_rules file told text rejected) = inr (no_file file text)
+
+-- What is told where there is one.
+
+pub memory_or_refusal : (found : Refusal) → (found ≡ NoMemory) ⊎ (found ≢ NoMemory)
+memory_or_refusal (variant.Bare code) = inr (λ same. cc)
+memory_or_refusal (variant.Placed code at) = inr (λ same. cc)
+memory_or_refusal (variant.Paired code at other) = inr (λ same. cc)
+memory_or_refusal (variant.Lined code line) = inr (λ same. cc)
+memory_or_refusal variant.NoMemory = inl refl
+
+module _ {X : Type 0} (bytes : List ℕ) (file : File) (procs : List CoreProc) (text : IsCheckedText bytes file)
+    (core : map placed_of procs ≡ core_file (classes_of file) file) (result : Result X Refusal)
+    (kept : OnOk result (HasNoViolations (file_of procs))) (safe : OnOk result (AllRunSafely (file_of procs)))
+    (broken : IfErr result (λ refusal. refusal ≢ NoMemory → IsRejectedCore procs refusal)) where
+  pub accepted_told : OnOk result (IsAcceptedText bytes)
+  accepted_told = go result kept safe
+    where
+      go : (result : Result X Refusal) → OnOk result (HasNoViolations (file_of procs)) → OnOk result (AllRunSafely (file_of procs)) → OnOk result (IsAcceptedText bytes)
+      go (Ok x) none runs = accepted_by file procs core bytes text none runs
+      go (Err refusal) none runs = tt
+
+  pub refused_told : IfErr result (λ refusal. refusal ≢ NoMemory → IsCheckRefused bytes refusal)
+  refused_told = go result broken
+    where
+      go : (result : Result X Refusal) → IfErr result (λ refusal. refusal ≢ NoMemory → IsRejectedCore procs refusal) → IfErr result (λ refusal. refusal ≢ NoMemory → IsCheckRefused bytes refusal)
+      go (Ok x) rejected = tt
+      go (Err refusal) rejected = λ not_memory. by_rules file refusal text (rejected_by file procs core refusal (rejected not_memory))
+
+  pub each_told : (refusal : Refusal) → IsCheckRefused bytes refusal → MatchResult result (λ x. ⊥) (λ found. (found ≡ refusal) ⊎ (found ≡ NoMemory))
+  each_told refusal refused = go result accepted_told refused_told
+    where
+      go : (result : Result X Refusal) → OnOk result (IsAcceptedText bytes) → IfErr result (λ found. found ≢ NoMemory → IsCheckRefused bytes found)
+          → MatchResult result (λ x. ⊥) (λ found. (found ≡ refusal) ⊎ (found ≡ NoMemory))
+      go (Ok x) accepted told = accepted_or_refused bytes refusal refused accepted
+      go (Err found) accepted told = elim (memory_or_refusal found) [
+        | inl memory ↦ inr memory
+        | inr not_memory ↦ inl (check_refused_once bytes found refusal (told not_memory) refused)
+      ]
+
+  pub file_told : IsAcceptedText bytes → IfErr result (λ refusal. refusal ≡ NoMemory)
+  file_told accepted = go result refused_told
+    where
+      go : (result : Result X Refusal) → IfErr result (λ found. found ≢ NoMemory → IsCheckRefused bytes found) → IfErr result (λ refusal. refusal ≡ NoMemory)
+      go (Ok x) told = tt
+      go (Err found) told = elim (memory_or_refusal found) [
+        | inl memory ↦ memory
+        | inr not_memory ↦ absurd (accepted_or_refused bytes found (told not_memory) accepted)
+      ]
+
+-- The line of a refusal, or of want of memory.
+pub line_told : (bytes : List ℕ) (refusal : Refusal) → (refusal ≢ NoMemory → IsCheckRefused bytes refusal) → (refusal_line refusal ≡ no_memory_line) ⊎ IsCheckLine bytes (refusal_line refusal)
+line_told bytes refusal refused = elim (memory_or_refusal refusal) [
+  | inl memory ↦ inl (ap refusal_line memory)
+  | inr not_memory ↦ inr (record { refusal = refusal; refused = refused not_memory; is = refl })
+]

@@ -1,0 +1,61 @@
+-- What `check` refuses, and when it accepts a file.
+use Rattle.std.specs.Prelude.{◌≡◌, ℕ, List, map, slice_get, Some, codes}
+use Rattle.anvil_tree.specs.Tree.{File}
+use Rattle.channel_classes.specs.Classes.{classes_of}
+use Rattle.core_file.specs.CoreFile.{Placed, core_file}
+use Rattle.core_term.specs.Process.{Process}
+use Rattle.core_term.specs.Violations.{Broken, HasNoViolations}
+use Rattle.core_term.specs.AcceptedFile.{AllRunSafely}
+use Rattle.timing_check.specs.OfFile.{IsFirstBroken}
+use Rattle.anvil_tool.specs.declared.refusal.Refusal.{Refusal}
+use Rattle.anvil_tool.specs.declared.refusal.Refusal.TheVariants.{Paired}
+use Rattle.anvil_tool.specs.FileText.{IsCheckedText}
+use Rattle.anvil_tool.specs.Refused.{IsFileRefused, code_of, refusal_line}
+
+-- the core file of a file, and its processes
+abbrev pub placed_in : File → List Placed
+placed_in file = core_file (classes_of file) file
+
+abbrev pub processes_in : File → List Process
+processes_in file = map (λ placed. placed.process) (placed_in file)
+
+-- the act of a site of the thread j of the process i has this place in the source
+abbrev pub IsPlaceIn : List Placed → (i j site at : ℕ) → Type 0
+IsPlaceIn all i j site at =
+    (placed : Placed) × (slice_get all i ≡ Some placed)
+    × (places : List ℕ) × (slice_get placed.places j ≡ Some places) × (slice_get places site ≡ Some at)
+
+-- a timing rule is broken: the rule of the first violation of the file, and the places of its two acts
+pub record IsRejected (file : File) (refusal : Refusal) : Type 0 where
+  pub violation : Broken
+  pub is_first : IsFirstBroken (processes_in file) violation
+  pub at : ℕ
+  pub other : ℕ
+  pub first_at : IsPlaceIn (placed_in file) violation.process violation.thread violation.first at
+  pub second_at : IsPlaceIn (placed_in file) violation.process violation.thread violation.second other
+  pub is : refusal ≡ Paired (code_of violation.rule) at other
+
+-- A file is refused as by every command, or else by the first of its violations.
+pub data IsCheckRefused (bytes : List ℕ) : Refusal → Type 0 where
+  by_file : (refusal : Refusal) → IsFileRefused bytes refusal → IsCheckRefused bytes refusal
+  by_rules : (file : File) (refusal : Refusal) → IsCheckedText bytes file → IsRejected file refusal
+      → IsCheckRefused bytes refusal
+
+-- the line of such a refusal
+pub record IsCheckLine (bytes line : List ℕ) : Type 0 where
+  pub refusal : Refusal
+  pub refused : IsCheckRefused bytes refusal
+  pub is : line ≡ refusal_line refusal
+
+-- bytes that spell a file that passes its checks and breaks no timing rule, so that every run of each of its processes
+-- is safe, for every input list
+pub record IsAcceptedText (bytes : List ℕ) : Type 0 where
+  pub file : File
+  pub spelled : IsCheckedText bytes file
+  pub accepted : HasNoViolations (processes_in file)
+  pub safe : AllRunSafely (processes_in file)
+
+-- what is written for it
+pub record IsAcceptedLine (bytes text : List ℕ) : Type 0 where
+  pub accepted : IsAcceptedText bytes
+  pub is : text ≡ codes "accepted\n"
