@@ -336,6 +336,9 @@ fn the_put_of_a_line_fails(rt: HostRuntime) -> Result<(), Fail> {
     let usage = run(rt.alloc(), &["help"], COUNTER, faults)?;
     assert!(rt; usage.status == Status::WriteFault);
     assert_eq!(rt; usage.out.bytes(), b"".as_slice());
-    assert_eq!(rt; usage.err.bytes(), b"usage: anvil check FILE | comp".as_slice());
+    assert_eq!(rt;
+        usage.err.bytes(),
+        b"usage: anvil check FILE | comp".as_slice()
+    );
     Ok(())
 }
