@@ -123,6 +123,20 @@ fn files_are_accepted_or_refused(rt: HostRuntime) -> Result<(), Fail> {
 }
 
 #[test]
+fn compile_refuses_them_with_the_same_line(rt: HostRuntime) -> Result<(), Fail> {
+    for (what, file, answer) in FILES.iter() {
+        if !answer.is_empty() {
+            let end = run(rt.alloc(), &["compile", "f"], file.as_bytes(), NO_FAULTS)?;
+            let line = format!(in rt.alloc(); "refused: {answer}\n")?;
+            assert!(rt; end.status == Status::Refused, "{what}");
+            assert_eq!(rt; end.out.bytes(), b"".as_slice());
+            assert_eq!(rt; end.err.bytes(), line.as_bytes(), "{what}");
+        }
+    }
+    Ok(())
+}
+
+#[test]
 fn the_line_of_an_accepted_file_cannot_be_put(rt: HostRuntime) -> Result<(), Fail> {
     let faults = Faults {
         loads: &[],

@@ -7,7 +7,8 @@ use Rattle.anvil_grammar.specs.declared.error.ParseErr.TheVariants as parser
 use Rattle.anvil_tool.specs.Form.{usage_line}
 use Rattle.channel_classes.specs.declared.error.ClassErr.TheVariants as class
 use Rattle.core_file.specs.declared.error.NameErr.TheVariants as name
-use Rattle.anvil_tool.specs.Refused.{not_built, of_classes, of_lexer, of_parser, of_processes, refusal_line}
+use Rattle.anvil_tool.specs.Output.{not_built}
+use Rattle.anvil_tool.specs.Refused.{of_classes, of_lexer, of_parser, of_processes, refusal_line}
 
 of_the_lexer : refusal_line (of_lexer (lexer.LongName 0)) ≡ codes "refused: LongName at 0\n"
 unfolding digits

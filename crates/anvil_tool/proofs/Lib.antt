@@ -16,6 +16,7 @@ pub mod Written
 pub mod OneFile
 pub mod OneCheck
 pub mod OneRun
+pub mod Plain
 pub mod OneAnswer
 -- Examples.
 pub mod Examples

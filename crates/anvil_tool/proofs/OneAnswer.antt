@@ -12,7 +12,7 @@ use Rattle.anvil_tool.specs.Refused.{refusal_line}
 use Rattle.anvil_tool.specs.Stages.{Stages, stages_of, stages_by, name_in, run_refuses, run_goes_on, run_breaks}
 use Rattle.anvil_tool.specs.Answer.{Tells, Exceeds, Leads, here, on, too_long_line}
 use Rattle.anvil_tool.specs.Laws.{HasCause, of_words, of_length, of_stage, of_text, of_breach, HasOneAnswer}
-use Rattle.anvil_tool.proofs.OneRefusal.{refused_once, plain_or_refused}
+use Rattle.anvil_tool.proofs.Plain.{refused_once, plain_or_refused}
 use Rattle.anvil_tool.proofs.Ruled.{check_refused_once, accepted_or_refused}
 use Rattle.anvil_tool.proofs.Processes.{process_refused_once, process_or_refused}
 use Rattle.anvil_tool.proofs.Runs.{text_refused_once, run_or_refused, broken_once}

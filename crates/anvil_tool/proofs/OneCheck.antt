@@ -1,6 +1,6 @@
 -- The form `check FILE`: which stages are reached, and what that makes of the answers. The stages of one file are those of
 -- `OneFile`.
-use Rattle.std.proofs.Common.{◌≡◌, ◌⊎◌, inl, inr, ℕ, ◌<◌, ◌≤◌, List, [], ◌∷◌, length, Option, Some, None, IfSome, refl, sym, subst, arith}
+use Rattle.std.proofs.Common.{◌≡◌, ◌⊎◌, inl, inr, ℕ, List, [], ◌∷◌, Option, Some, sym, subst}
 use Rattle.std.specs.Io.KnownBytes.{Appends}
 use Rattle.anvil_io.specs.Causes.{AppendsPrefix, Rose}
 use Rattle.anvil_tool.specs.declared.refusal.Refusal.{Refusal}
@@ -8,7 +8,7 @@ use Rattle.anvil_tool.specs.Form.{Load, check_form, file_load}
 use Rattle.anvil_tool.specs.Stages.{check_refuses, check_goes_on}
 use Rattle.anvil_tool.specs.Check.{IsAcceptedText, IsAcceptedLine, IsCheckRefused, IsCheckLine}
 use Rattle.anvil_tool.specs.Refused.{no_memory_line}
-use Rattle.anvil_tool.specs.Answer.{MayGive, Leads, here, on, Reaches, Asks, IsFirstRefusal, Passes, IsLine, of_memory, of_refusal, IsRefusedBy, IsWritten, OutFailed}
+use Rattle.anvil_tool.specs.Answer.{MayGive, here, on, Reaches, Asks, IsFirstRefusal, Passes, IsLine, of_memory, of_refusal, IsRefusedBy, IsWritten, OutFailed}
 use Rattle.anvil_tool.proofs.OneFile.{two_stages}
 
 -- before the load

@@ -8,8 +8,8 @@ use Rattle.anvil_io.specs.Causes.{AppendsPrefix, Rose}
 use Rattle.anvil_tool.specs.declared.refusal.Refusal.{Refusal}
 use Rattle.anvil_tool.specs.Form.{Load, compile_form, file_load}
 use Rattle.anvil_tool.specs.Stages.{IsPlainText, compile_refuses, compile_goes_on}
-use Rattle.anvil_tool.specs.Output.{IsOutput}
-use Rattle.anvil_tool.specs.Refused.{IsRefused, IsRefusalLine, no_memory_line}
+use Rattle.anvil_tool.specs.Output.{IsOutput, IsRefused, IsRefusalLine}
+use Rattle.anvil_tool.specs.Refused.{no_memory_line}
 use Rattle.anvil_tool.specs.Answer.{MayGive, Exceeds, Leads, here, on, Reaches, Asks, IsFirstRefusal, Passes, IsLine, of_memory, of_refusal, HasNoFault, IsRefusedBy, IsWritten, OutFailed}
 
 -- What was told.
@@ -78,7 +78,7 @@ passes told file bytes text given output = record {
   goes_on = record {
     file = output.describe.file;
     counters = output.describe.describe.counters;
-    spelled = output.describe.spelled;
+    accepted = output.describe.accepted;
     plain = output.describe.describe.plain;
   };
 }

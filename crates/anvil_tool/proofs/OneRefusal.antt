@@ -1,9 +1,9 @@
--- Bytes have one refusal at most, and none where they spell a plain file.
+-- Bytes have one refusal of the checks before the timing rules at most, and none where they spell a file that passes them.
 --
--- The claim: two refusals of the same bytes are the same, and bytes with a refusal are not plain. The argument: bytes have one
+-- The claim: two refusals of the same bytes are the same, and bytes with a refusal spell no file that passes. The argument: bytes have one
 -- list of tokens or one first fault; tokens are one file, or have first refusals of one code at one place, and not both; a file
 -- passes its checks, or one of them is the first to fail.
-use Rattle.std.proofs.Common.{◌≡◌, ◌∙◌, ℕ, List, ap, arith, refl, sym, subst}
+use Rattle.std.proofs.Common.{◌≡◌, ◌∙◌, ℕ, List, ap, arith, sym, subst}
 use Rattle.std.proofs.lemmas.Str.{utf8_valid_len-IsValidUpTo}
 use Rattle.anvil_lexer.specs.declared.token.Token.{Token}
 use Rattle.anvil_lexer.specs.declared.error.LexErr.{LexErr}
@@ -16,11 +16,9 @@ use Rattle.anvil_grammar.specs.Refusal.{IsAccepted, IsRefusal, IsFirstRefusal, I
 use Rattle.anvil_grammar.proofs.Refused.Refusals.{accepted_has_no_refusal, first_refusals_same}
 use Rattle.anvil_grammar.proofs.Walked.OneTree.{one_tree}
 use Rattle.anvil_tree.specs.Tree.{File}
-use Rattle.plain_file.specs.Plain.{IsPlainFile}
 use Rattle.anvil_tool.specs.declared.refusal.Refusal.{Refusal}
 use Rattle.anvil_tool.specs.FileText.{IsFileText, IsCheckedText}
-use Rattle.anvil_tool.specs.Refused.{IsUnread, by_lexer, by_parser, IsUnchecked, IsFileRefused, unread, unchecked, IsRefused, by_file, by_builder, of_lexer, of_parser}
-use Rattle.anvil_tool.specs.Stages.{IsPlainText}
+use Rattle.anvil_tool.specs.Refused.{IsUnread, by_lexer, by_parser, IsUnchecked, IsFileRefused, unread, unchecked, of_lexer, of_parser}
 use Rattle.anvil_tool.proofs.Checks.{checked_or_unchecked, unchecked_once}
 
 -- one list of tokens
@@ -110,15 +108,3 @@ pub checked_or_refused : (bytes : List ℕ) (file : File) (refusal : Refusal) �
 checked_or_refused bytes file refusal text (unread told first) = file_or_unread bytes file refusal text.spelled first
 checked_or_refused bytes file refusal text (unchecked found told found_text first) =
     checked_or_unchecked file refusal text.checked (subst (λ f. IsUnchecked f refusal) (sym (one_file bytes file found text.spelled found_text)) first)
-
--- the same of what `compile` refuses
-pub refused_once : (bytes : List ℕ) (one other : Refusal) → IsRefused bytes one → IsRefused bytes other → one ≡ other
-refused_once bytes one other (by_file told first) (by_file found second) = file_refused_once bytes one other first second
-refused_once bytes one other (by_file told first) (by_builder file text not_plain) = absurd (checked_or_refused bytes file one text first)
-refused_once bytes one other (by_builder file text not_plain) (by_file found second) = absurd (checked_or_refused bytes file other text second)
-refused_once bytes one other (by_builder file text not_plain) (by_builder file_too text_too not_plain_too) = refl
-
-pub plain_or_refused : (bytes : List ℕ) (refusal : Refusal) → IsRefused bytes refusal → IsPlainText bytes → ⊥
-plain_or_refused bytes refusal (by_file told first) plain = checked_or_refused bytes plain.file refusal plain.spelled first
-plain_or_refused bytes refusal (by_builder file text not_plain) plain =
-    not_plain plain.counters (subst (IsPlainFile plain.counters) (one_file bytes plain.file file plain.spelled.spelled text.spelled) plain.plain)

@@ -2,9 +2,9 @@
 --
 -- The claim: before the first load the stage without bytes is reached, behind it that with the bytes of the file, and behind the second
 -- load that with both, and no other. So what is known of these bytes is what the answers tell over forms.
-use Rattle.std.proofs.Common.{◌≡◌, ◌≢◌, ◌∙◌, ◌⊎◌, inl, inr, ℕ, ◌+◌, ◌<◌, ◌≤◌, min, List, [], ◌∷◌, length, Option, Some, None, IfSome, IfNone, refl, sym, subst, ap, arith}
+use Rattle.std.proofs.Common.{◌≡◌, ◌≢◌, ◌⊎◌, inl, inr, ℕ, ◌<◌, ◌≤◌, List, [], ◌∷◌, length, Option, Some, None, IfSome, IfNone, refl, sym, subst, ap, arith}
 use Rattle.std.specs.Io.KnownBytes.{Appends}
-use Rattle.anvil_io.specs.Causes.{AppendsPrefix, Rose, GrewPast}
+use Rattle.anvil_io.specs.Causes.{GrewPast}
 use Rattle.core_term.specs.Process.{Process}
 use Rattle.stim_text.specs.Answers.{AreRowsOf}
 use Rattle.anvil_tool.specs.declared.refusal.Refusal.{Refusal}

@@ -3,19 +3,19 @@
 -- The claim: bytes have one process of a name at most, or none, or no core file; and the ports of a process are within the limits.
 -- The argument: bytes spell one file, and that has one core file; what its checks say of endpoints and classes is what is asked of
 -- ports.
-use Rattle.std.proofs.Common.{◌≡◌, ◌≢◌, ◌∙◌, ◌⊎◌, inl, inr, ℕ, zero, suc, ◌+◌, ◌<◌, Bool, true, false, List, [], ◌∷◌, ◌++◌, length, get_or, map, drop, Option, Some, None, if◌then◌else◌, refl, ap, sym, subst, arith}
-use Rattle.std.specs.Prelude.{Result, Ok, Err, MatchResult, IfErr, IsTrue, bytes_eq}
+use Rattle.std.proofs.Common.{◌≡◌, ◌∙◌, ◌⊎◌, inl, inr, ℕ, zero, suc, ◌+◌, ◌<◌, Bool, true, false, List, [], ◌∷◌, ◌++◌, length, get_or, map, drop, Some, None, refl, ap, sym, subst, arith}
+use Rattle.std.specs.Prelude.{IsTrue, bytes_eq}
 use Rattle.std.specs.List.{list_all}
 use Rattle.anvil_tree.specs.Tree.{File, Name, class, process}
 use Rattle.first_check.proofs.Fails.{all_hold}
 use Rattle.channel_classes.specs.Classes.{Class, classes_of}
 use Rattle.channel_classes.specs.ClassChecks.{checks_of_classes}
-use Rattle.core_file.specs.CoreFile.{Placed, placed_of, core_file}
+use Rattle.core_file.specs.CoreFile.{placed_of, core_file}
 use Rattle.core_file.specs.CoreProcess.{ports_of}
 use Rattle.core_file.specs.ProcessChecks.{checks_of_processes}
 use Rattle.core_file.proofs.ClassFits.{ClassesFit, classes_fit}
 use Rattle.core_file.proofs.PortsFit.{port_held}
-use Rattle.core_file.proofs.ProcessHeld.{FileHeld, ProcessHeld, file_held}
+use Rattle.core_file.proofs.ProcessHeld.{FileHeld, file_held}
 use Rattle.core_term.specs.declared.process.CorePort.{CorePort}
 use Rattle.core_term.specs.declared.process.CoreProc.{CoreProc}
 use Rattle.core_term.specs.Process.{Port, Process, nth_port}
@@ -23,10 +23,9 @@ use Rattle.core_term.specs.ProcessView.{port_of}
 use Rattle.core_term.specs.Lists.{Has}
 use Rattle.core_term.specs.Sized.{port_fits}
 use Rattle.stim_text.proofs.Decided.{some_same}
-use Rattle.anvil_tool.specs.declared.refusal.Code.TheVariants as code
 use Rattle.anvil_tool.specs.declared.refusal.Refusal.{Refusal}
-use Rattle.anvil_tool.specs.declared.refusal.Refusal.TheVariants.{NoMemory, Bare}
-use Rattle.anvil_tool.specs.FileText.{IsChecked, IsCheckedText}
+use Rattle.anvil_tool.specs.declared.refusal.Refusal.TheVariants.{NoMemory}
+use Rattle.anvil_tool.specs.FileText.{IsCheckedText}
 use Rattle.anvil_tool.specs.Refused.{IsFileRefused}
 use Rattle.anvil_tool.specs.Run.{process_named, IsProcessOf, HasProcess, HasNoProcess, IsProcessRefused, by_file, no_process}
 use Rattle.anvil_tool.proofs.OneRefusal.{one_file, file_refused_once, checked_or_refused}

@@ -14,7 +14,7 @@ use Rattle.anvil_grammar.specs.Refusal.{IsAccepted, IsFirstRefusal}
 use Rattle.anvil_tool.specs.declared.refusal.Refusal.{Refusal}
 use Rattle.anvil_tool.specs.declared.refusal.Refusal.TheVariants.{NoMemory}
 use Rattle.anvil_tool.specs.FileText.{IsFileText, IsChecked, IsCheckedText}
-use Rattle.anvil_tool.specs.Refused.{IsUnread, by_lexer, by_parser, IsUnchecked, IsFileRefused, unread, unchecked, IsRefused, by_file, by_builder, of_lexer, of_parser, IsNotPlain, not_built}
+use Rattle.anvil_tool.specs.Refused.{IsUnread, by_lexer, by_parser, IsUnchecked, IsFileRefused, unread, unchecked, of_lexer, of_parser}
 use Rattle.anvil_tool.proofs.Checks.{checked_or_unchecked}
 
 -- From bytes to a file.
@@ -82,41 +82,8 @@ told_by_checks bytes tree found the each refusal (unchecked file told text fails
 pub checked_by : (bytes : List ℕ) (tree file : File) → IsTheFile bytes tree → IsCheckedText bytes file → IsChecked tree
 checked_by bytes tree file the text = subst IsChecked (sym (the.only file text.spelled)) text.checked
 
--- the same of what `compile` refuses
-pub told_to_compile : (bytes : List ℕ) (found : Refusal) → ((file : File) → IsCheckedText bytes file → found ≡ NoMemory)
-    → ((refusal : Refusal) → IsFileRefused bytes refusal → (found ≡ refusal) ⊎ (found ≡ NoMemory))
-    → (refusal : Refusal) → IsRefused bytes refusal → (found ≡ refusal) ⊎ (found ≡ NoMemory)
-told_to_compile bytes found no_file each refusal (by_file told of_file) = each refusal of_file
-told_to_compile bytes found no_file each refusal (by_builder file text not_plain) = inr (no_file file text)
-
 -- no refusal is left where the checks pass
 pub none_for_file : (bytes : List ℕ) (tree : File) (refusal : Refusal) → IsTheFile bytes tree → IsChecked tree → IsFileRefused bytes refusal → ⊥
 none_for_file bytes tree refusal the checked (unread told of_bytes) = the.read refusal of_bytes
 none_for_file bytes tree refusal the checked (unchecked file told text fails) =
     checked_or_unchecked tree refusal checked (subst (λ f. IsUnchecked f refusal) (sym (the.only file text)) fails)
-
--- where they pass, the builder tells the rest
-pub told_by_builder : {T : Type 0} (bytes : List ℕ) (tree : File) (result : Result T Refusal) → IsTheFile bytes tree → IsChecked tree
-    → (IsNotPlain tree → MatchResult result (λ _. ⊥) (λ found. (found ≡ not_built) ⊎ (found ≡ NoMemory)))
-    → (refusal : Refusal) → IsRefused bytes refusal → MatchResult result (λ _. ⊥) (λ found. (found ≡ refusal) ⊎ (found ≡ NoMemory))
-told_by_builder bytes tree result the checked each refusal (by_file told of_file) = absurd (none_for_file bytes tree refusal the checked of_file)
-told_by_builder bytes tree result the checked each refusal (by_builder file text not_plain) = each (subst IsNotPlain (sym (the.only file text.spelled)) not_plain)
-
--- what the builder tells is a refusal of the bytes
-pub refused_by_builder : {T : Type 0} (bytes : List ℕ) (tree : File) (result : Result T Refusal) → IsCheckedText bytes tree
-    → IfErr result (λ refusal. refusal ≢ NoMemory → (refusal ≡ not_built) × IsNotPlain tree) → IfErr result (λ refusal. refusal ≢ NoMemory → IsRefused bytes refusal)
-refused_by_builder bytes tree (Ok value) text told = tt
-refused_by_builder bytes tree (Err refusal) text told = λ not_memory. let (is, not_plain) = told not_memory in rw is (by_builder tree text not_plain)
-
--- The same where the call that makes the core file ends.
-
-pub told_by_core : {T : Type 0} (bytes : List ℕ) (tree : File) (result : Result T Refusal) → IsTheFile bytes tree
-    → ((refusal : Refusal) → IsUnchecked tree refusal → MatchResult result (λ _. ⊥) (λ found. (found ≡ refusal) ⊎ (found ≡ NoMemory)))
-    → (refusal : Refusal) → IsFileRefused bytes refusal → MatchResult result (λ _. ⊥) (λ found. (found ≡ refusal) ⊎ (found ≡ NoMemory))
-told_by_core bytes tree result the each refusal (unread told of_bytes) = absurd (the.read refusal of_bytes)
-told_by_core bytes tree result the each refusal (unchecked file told text fails) = each refusal (subst (λ f. IsUnchecked f refusal) (sym (the.only file text)) fails)
-
-pub unchecked_by_core : {T : Type 0} (bytes : List ℕ) (tree : File) (result : Result T Refusal) → IsFileText bytes tree
-    → IfErr result (λ refusal. refusal ≢ NoMemory → IsUnchecked tree refusal) → IfErr result (λ refusal. refusal ≢ NoMemory → IsFileRefused bytes refusal)
-unchecked_by_core bytes tree (Ok value) text told = tt
-unchecked_by_core bytes tree (Err refusal) text told = λ not_memory. unchecked tree refusal text (told not_memory)

@@ -3,27 +3,25 @@
 -- The claim: bytes have one refusal of `check` at most, and none where they spell an accepted file. The argument: a file has one
 -- first violation, since of two each would come before the other, and each of its acts has one place; and an accepted file has
 -- none. What the check of the code refuses is a core file, and that is the core file of the tree.
-use Rattle.std.proofs.Common.{◌≡◌, ◌≢◌, ◌∙◌, ◌⊎◌, inl, inr, ℕ, List, [], ◌∷◌, map, slice_get, Option, Some, refl, ap, sym, subst}
-use Rattle.std.specs.Prelude.{Result, Ok, Err, MatchResult, IfErr, OnOk}
+use Rattle.std.proofs.Common.{◌≡◌, ◌≢◌, ◌∙◌, ◌⊎◌, inl, inr, ℕ, List, [], ◌∷◌, map, slice_get, refl, ap, sym, subst}
 use Rattle.std.proofs.lemmas.Option.{slice_get-map, same_Some}
 use Rattle.anvil_tree.specs.Tree.{File}
 use Rattle.channel_classes.specs.Classes.{classes_of}
 use Rattle.core_file.specs.CoreFile.{Placed, placed_of, core_file}
 use Rattle.core_term.specs.declared.process.CoreProc.{CoreProc}
-use Rattle.core_term.specs.declared.term.CoreTerm.{CoreTerm}
 use Rattle.core_term.specs.AcceptedFile.{file_of, AllRunSafely}
 use Rattle.core_term.specs.Process.{Process}
 use Rattle.core_term.specs.View.{places_of}
-use Rattle.core_term.specs.Violations.{Broken, ComesBefore, IsBroken, HasNoViolations}
+use Rattle.core_term.specs.Violations.{Broken, ComesBefore, HasNoViolations}
 use Rattle.timing_check.specs.OfFile.{IsFirstBroken}
-use Rattle.timing_check.specs.Refusal.{IsPlace, IsRejection}
+use Rattle.timing_check.specs.Refusal.{IsPlace}
 use Rattle.timing_check.proofs.Heads.{never_back}
 use Rattle.anvil_tool.specs.declared.refusal.Refusal.{Refusal}
 use Rattle.anvil_tool.specs.declared.refusal.Refusal.TheVariants as variant
 use Rattle.anvil_tool.specs.declared.refusal.Refusal.TheVariants.{NoMemory, Paired}
 use Rattle.anvil_tool.specs.FileText.{IsCheckedText}
-use Rattle.anvil_tool.specs.Refused.{IsFileRefused, code_of, refusal_line, no_memory_line}
-use Rattle.anvil_tool.specs.Check.{placed_in, processes_in, IsPlaceIn, IsRejected, IsCheckRefused, IsCheckLine, by_file, by_rules, IsAcceptedText}
+use Rattle.anvil_tool.specs.Refused.{code_of, refusal_line, no_memory_line}
+use Rattle.anvil_tool.specs.Check.{placed_in, processes_in, IsPlaceIn, IsRejected, IsCheckRefused, IsCheckLine, by_file, by_rules, IsAcceptedFile, IsAcceptedText}
 use Rattle.anvil_tool.specs.Ruled.{IsRejectedCore}
 use Rattle.anvil_tool.proofs.OneRefusal.{one_file, file_refused_once, checked_or_refused}
 
@@ -77,9 +75,10 @@ check_refused_once bytes one other (by_rules file told text first) (by_rules fil
     rejected_once file one other first (subst (λ f. IsRejected f other) (sym (one_file bytes file file_too text.spelled text_too.spelled)) second)
 
 pub accepted_or_refused : (bytes : List ℕ) (refusal : Refusal) → IsCheckRefused bytes refusal → IsAcceptedText bytes → ⊥
-accepted_or_refused bytes refusal (by_file told first) accepted = checked_or_refused bytes accepted.file refusal accepted.spelled first
+accepted_or_refused bytes refusal (by_file told first) accepted = checked_or_refused bytes accepted.file refusal accepted.is.spelled first
 accepted_or_refused bytes refusal (by_rules file told text first) accepted =
-    accepted_or_rejected file refusal (subst (λ f. HasNoViolations (processes_in f)) (one_file bytes accepted.file file accepted.spelled.spelled text.spelled) accepted.accepted) first
+    accepted_or_rejected file refusal
+    (subst (λ f. HasNoViolations (processes_in f)) (one_file bytes accepted.file file accepted.is.spelled.spelled text.spelled) accepted.is.accepted) first
 
 -- From core files of the code.
 
@@ -114,22 +113,14 @@ module _ (file : File) (procs : List CoreProc) (core : map placed_of procs ≡ c
         is = of_core.is ∙ ap (λ rule. Paired (code_of rule) of_core.at of_core.other) rejection.rule_is;
       }
 
-  pub accepted_by : (bytes : List ℕ) → IsCheckedText bytes file → HasNoViolations (file_of procs) → AllRunSafely (file_of procs) → IsAcceptedText bytes
+  pub accepted_by : (bytes : List ℕ) → IsCheckedText bytes file → HasNoViolations (file_of procs) → AllRunSafely (file_of procs) → IsAcceptedFile bytes file
   accepted_by bytes text none safe = record {
-    file = file;
     spelled = text;
     accepted = subst HasNoViolations processes_are none;
     safe = subst AllRunSafely processes_are safe;
   }
 
--- What is told where there is no core file.
-pub told_by_core : (bytes : List ℕ) (found : Refusal) → ((file : File) → IsCheckedText bytes file → found ≡ NoMemory)
-    → ((refusal : Refusal) → IsFileRefused bytes refusal → (found ≡ refusal) ⊎ (found ≡ NoMemory))
-    → (refusal : Refusal) → IsCheckRefused bytes refusal → (found ≡ refusal) ⊎ (found ≡ NoMemory)
-told_by_core bytes found no_file each refusal (by_file told of_file) = each refusal of_file
-told_by_core bytes found no_file each refusal (by_rules file told text rejected) = inr (no_file file text)
-
--- What is told where there is one.
+-- What is told where bytes are refused: by a refusal that holds of them, or for want of memory.
 
 pub memory_or_refusal : (found : Refusal) → (found ≡ NoMemory) ⊎ (found ≢ NoMemory)
 memory_or_refusal (variant.Bare code) = inr (λ same. cc)
@@ -138,44 +129,18 @@ memory_or_refusal (variant.Paired code at other) = inr (λ same. cc)
 memory_or_refusal (variant.Lined code line) = inr (λ same. cc)
 memory_or_refusal variant.NoMemory = inl refl
 
-module _ {X : Type 0} (bytes : List ℕ) (file : File) (procs : List CoreProc) (text : IsCheckedText bytes file)
-    (core : map placed_of procs ≡ core_file (classes_of file) file) (result : Result X Refusal)
-    (kept : OnOk result (HasNoViolations (file_of procs))) (safe : OnOk result (AllRunSafely (file_of procs)))
-    (broken : IfErr result (λ refusal. refusal ≢ NoMemory → IsRejectedCore procs refusal)) where
-  pub accepted_told : OnOk result (IsAcceptedText bytes)
-  accepted_told = go result kept safe
-    where
-      go : (result : Result X Refusal) → OnOk result (HasNoViolations (file_of procs)) → OnOk result (AllRunSafely (file_of procs)) → OnOk result (IsAcceptedText bytes)
-      go (Ok x) none runs = accepted_by file procs core bytes text none runs
-      go (Err refusal) none runs = tt
+pub each_told : (bytes : List ℕ) (found : Refusal) → (found ≢ NoMemory → IsCheckRefused bytes found)
+    → (refusal : Refusal) → IsCheckRefused bytes refusal → (found ≡ refusal) ⊎ (found ≡ NoMemory)
+each_told bytes found told refusal refused = elim (memory_or_refusal found) [
+  | inl memory ↦ inr memory
+  | inr not_memory ↦ inl (check_refused_once bytes found refusal (told not_memory) refused)
+]
 
-  pub refused_told : IfErr result (λ refusal. refusal ≢ NoMemory → IsCheckRefused bytes refusal)
-  refused_told = go result broken
-    where
-      go : (result : Result X Refusal) → IfErr result (λ refusal. refusal ≢ NoMemory → IsRejectedCore procs refusal) → IfErr result (λ refusal. refusal ≢ NoMemory → IsCheckRefused bytes refusal)
-      go (Ok x) rejected = tt
-      go (Err refusal) rejected = λ not_memory. by_rules file refusal text (rejected_by file procs core refusal (rejected not_memory))
-
-  pub each_told : (refusal : Refusal) → IsCheckRefused bytes refusal → MatchResult result (λ x. ⊥) (λ found. (found ≡ refusal) ⊎ (found ≡ NoMemory))
-  each_told refusal refused = go result accepted_told refused_told
-    where
-      go : (result : Result X Refusal) → OnOk result (IsAcceptedText bytes) → IfErr result (λ found. found ≢ NoMemory → IsCheckRefused bytes found)
-          → MatchResult result (λ x. ⊥) (λ found. (found ≡ refusal) ⊎ (found ≡ NoMemory))
-      go (Ok x) accepted told = accepted_or_refused bytes refusal refused accepted
-      go (Err found) accepted told = elim (memory_or_refusal found) [
-        | inl memory ↦ inr memory
-        | inr not_memory ↦ inl (check_refused_once bytes found refusal (told not_memory) refused)
-      ]
-
-  pub file_told : IsAcceptedText bytes → IfErr result (λ refusal. refusal ≡ NoMemory)
-  file_told accepted = go result refused_told
-    where
-      go : (result : Result X Refusal) → IfErr result (λ found. found ≢ NoMemory → IsCheckRefused bytes found) → IfErr result (λ refusal. refusal ≡ NoMemory)
-      go (Ok x) told = tt
-      go (Err found) told = elim (memory_or_refusal found) [
-        | inl memory ↦ memory
-        | inr not_memory ↦ absurd (accepted_or_refused bytes found (told not_memory) accepted)
-      ]
+pub file_told : (bytes : List ℕ) (found : Refusal) → (found ≢ NoMemory → IsCheckRefused bytes found) → IsAcceptedText bytes → found ≡ NoMemory
+file_told bytes found told accepted = elim (memory_or_refusal found) [
+  | inl memory ↦ memory
+  | inr not_memory ↦ absurd (accepted_or_refused bytes found (told not_memory) accepted)
+]
 
 -- The line of a refusal, or of want of memory.
 pub line_told : (bytes : List ℕ) (refusal : Refusal) → (refusal ≢ NoMemory → IsCheckRefused bytes refusal) → (refusal_line refusal ≡ no_memory_line) ⊎ IsCheckLine bytes (refusal_line refusal)

@@ -2,7 +2,7 @@
 --
 -- The claim: of a file, a name and a stimulus there is one run at most, so its first broken promise is one, and so is what is told of
 -- it; and a stimulus that is refused has no run. The argument: the process is one and its rows are one.
-use Rattle.std.proofs.Common.{◌≡◌, ◌∙◌, ◌⊎◌, inl, inr, ℕ, ◌<◌, true, List, length, map, refl, ap, sym, subst, arith}
+use Rattle.std.proofs.Common.{◌≡◌, ◌∙◌, inl, inr, ℕ, ◌<◌, List, length, map, ap, sym, subst}
 use Rattle.std.proofs.lemmas.Bool.{cases_order}
 use Rattle.core_term.specs.declared.rows.Row.{Row}
 use Rattle.core_term.specs.Breach.{IsFirstBreach}
@@ -11,7 +11,6 @@ use Rattle.core_term.specs.Inputs.{Inputs}
 use Rattle.core_term.specs.LogText.{log_text}
 use Rattle.core_term.specs.Outputs.{wires}
 use Rattle.core_term.specs.Process.{Process, nth_port}
-use Rattle.core_term.specs.Rows.{inputs_of}
 use Rattle.core_term.specs.Wires.{Wires}
 use Rattle.stim_text.specs.Answers.{cells_of, AreRowsOf}
 use Rattle.source_log.specs.Log.{log_to, wires_on, IsKeptTo}

@@ -2,7 +2,7 @@
 --
 -- The claim: a text that has rows is not refused, and has one refusal at most; what is simulated on its rows is one. The argument is
 -- the law on stimuli: its answers exclude each other, and its rows are one.
-use Rattle.std.proofs.Common.{◌≡◌, ◌∙◌, ◌⊎◌, inl, inr, ℕ, zero, suc, ◌+◌, ◌-◌, ◌<◌, ◌≤◌, true, List, [], ◌∷◌, ◌++◌, length, get_or, map, refl, ap, sym, subst, arith}
+use Rattle.std.proofs.Common.{◌≡◌, ◌∙◌, ℕ, zero, suc, ◌+◌, ◌-◌, ◌<◌, true, List, [], ◌∷◌, length, get_or, map, refl, ap, sym, subst, arith}
 use Rattle.std.specs.Prelude.{IsTrue}
 use Rattle.std.specs.List.{list_all}
 use Rattle.std.proofs.Math.ListN.{length-map}
@@ -12,13 +12,13 @@ use Rattle.core_term.specs.Inputs.{Inputs}
 use Rattle.core_term.specs.Process.{Port}
 use Rattle.core_term.specs.Rows.{cells_fit, row_fits, nth_cell, nth_row, valid_in, data_in, ack_in, inputs_of}
 use Rattle.core_term.specs.Sized.{port_fits}
-use Rattle.core_term.specs.StimulusText.{IsStimulus, no_more, last_piece, by_feed, by_return_and_feed}
-use Rattle.stim_text.specs.Answers.{cells_of, AreRowsOf, IsFirstBadLine, HasTooManyRows}
+use Rattle.core_term.specs.StimulusText.{IsStimulus, last_piece, by_feed, by_return_and_feed}
+use Rattle.stim_text.specs.Answers.{cells_of, AreRowsOf, IsFirstBadLine}
 use Rattle.stim_text.specs.OneStimulus.{HasOneAnswer}
 use Rattle.stim_text.proofs.OneStimulus.{stimuli_have_one_answer}
 use Rattle.anvil_tool.specs.declared.refusal.Code.TheVariants as code
 use Rattle.anvil_tool.specs.declared.refusal.Refusal.{Refusal}
-use Rattle.anvil_tool.specs.declared.refusal.Refusal.TheVariants.{NoMemory, Bare, Lined}
+use Rattle.anvil_tool.specs.declared.refusal.Refusal.TheVariants.{Lined}
 use Rattle.anvil_tool.specs.Run.{IsStimulusRefused, bad_line, too_many}
 
 -- Rows fit the ports.

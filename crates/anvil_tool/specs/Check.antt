@@ -1,4 +1,4 @@
--- What `check` refuses, and when it accepts a file.
+-- What the timing rules refuse, and when they accept a file; what `check` refuses, and what it writes.
 use Rattle.std.specs.Prelude.{◌≡◌, ℕ, List, map, slice_get, Some, codes}
 use Rattle.anvil_tree.specs.Tree.{File}
 use Rattle.channel_classes.specs.Classes.{classes_of}
@@ -35,7 +35,7 @@ pub record IsRejected (file : File) (refusal : Refusal) : Type 0 where
   pub second_at : IsPlaceIn (placed_in file) violation.process violation.thread violation.second other
   pub is : refusal ≡ Paired (code_of violation.rule) at other
 
--- A file is refused as by every command, or else by the first of its violations.
+-- A file is refused by a check before the rules, or else by the first of its violations.
 pub data IsCheckRefused (bytes : List ℕ) : Refusal → Type 0 where
   by_file : (refusal : Refusal) → IsFileRefused bytes refusal → IsCheckRefused bytes refusal
   by_rules : (file : File) (refusal : Refusal) → IsCheckedText bytes file → IsRejected file refusal
@@ -47,13 +47,17 @@ pub record IsCheckLine (bytes line : List ℕ) : Type 0 where
   pub refused : IsCheckRefused bytes refusal
   pub is : line ≡ refusal_line refusal
 
--- bytes that spell a file that passes its checks and breaks no timing rule, so that every run of each of its processes
--- is safe, for every input list
-pub record IsAcceptedText (bytes : List ℕ) : Type 0 where
-  pub file : File
+-- bytes that spell the file, which passes its checks and breaks no timing rule, so that every run of each of its
+-- processes is safe, for every input list
+pub record IsAcceptedFile (bytes : List ℕ) (file : File) : Type 0 where
   pub spelled : IsCheckedText bytes file
   pub accepted : HasNoViolations (processes_in file)
   pub safe : AllRunSafely (processes_in file)
+
+-- bytes that spell such a file
+pub record IsAcceptedText (bytes : List ℕ) : Type 0 where
+  pub file : File
+  pub is : IsAcceptedFile bytes file
 
 -- what is written for it
 pub record IsAcceptedLine (bytes text : List ℕ) : Type 0 where

@@ -1,4 +1,4 @@
--- Why bytes spell no file, why a file does not pass its checks or has no modules, and the line that tells a refusal.
+-- Why bytes spell no file, why a file does not pass its checks, and the line that tells a refusal.
 use Rattle.std.specs.Prelude.{◌≡◌, ◌⊎◌, ℕ, List, ◌++◌, codes, Some, None}
 use Rattle.std.specs.Fmt.{decimal}
 use Rattle.anvil_lexer.specs.declared.token.Token.{Token}
@@ -19,12 +19,11 @@ use Rattle.core_file.specs.declared.error.NameErr.TheVariants as name
 use Rattle.core_file.specs.ProcessChecks.{checks_of_processes}
 use Rattle.core_term.specs.declared.rules.Rule.{Rule}
 use Rattle.core_term.specs.declared.rules.Rule.TheVariants as rule
-use Rattle.plain_file.specs.Plain.{Counter, IsPlainFile}
 use Rattle.anvil_tool.specs.declared.refusal.Code.{Code}
 use Rattle.anvil_tool.specs.declared.refusal.Code.TheVariants as code
 use Rattle.anvil_tool.specs.declared.refusal.Refusal.{Refusal}
 use Rattle.anvil_tool.specs.declared.refusal.Refusal.TheVariants.{Bare, Placed, Paired, Lined, NoMemory}
-use Rattle.anvil_tool.specs.FileText.{IsFileText, IsCheckedText}
+use Rattle.anvil_tool.specs.FileText.{IsFileText}
 
 -- a fault of the lexer
 abbrev pub of_lexer : LexErr → Refusal
@@ -78,14 +77,6 @@ code_of rule.V6 = code.V6
 code_of rule.V7 = code.V7
 code_of rule.V8 = code.V8
 
--- the refusal of a file that is no plain one: it has no place
-abbrev pub not_built : Refusal
-not_built = Bare code.NotBuilt
-
--- the file is plain by no list of counters
-abbrev pub IsNotPlain : File → Type 0
-IsNotPlain file = (counters : List Counter) → IsPlainFile counters file → ⊥
-
 -- Bytes spell no file: they are refused by the lexer, or else by the parser.
 pub data IsUnread (bytes : List ℕ) : Refusal → Type 0 where
   by_lexer : (fault : LexErr) → IsLexRefusal bytes fault → IsUnread bytes (of_lexer fault)
@@ -105,11 +96,6 @@ pub data IsFileRefused (bytes : List ℕ) : Refusal → Type 0 where
   unread : (refusal : Refusal) → IsUnread bytes refusal → IsFileRefused bytes refusal
   unchecked : (file : File) (refusal : Refusal) → IsFileText bytes file → IsUnchecked file refusal
       → IsFileRefused bytes refusal
-
--- `compile` refuses bytes for that, or else because they spell a file that passes and is no plain one.
-pub data IsRefused (bytes : List ℕ) : Refusal → Type 0 where
-  by_file : (refusal : Refusal) → IsFileRefused bytes refusal → IsRefused bytes refusal
-  by_builder : (file : File) → IsCheckedText bytes file → IsNotPlain file → IsRefused bytes not_built
 
 -- The line.
 
@@ -160,12 +146,6 @@ refusal_line (Paired code at other) =
     (spelling code ++ (codes " at " ++ (decimal at ++ (codes " and " ++ (decimal other ++ codes "\n")))))
 refusal_line (Lined code line) = codes "refused: " ++ (spelling code ++ (codes " at " ++ (decimal line ++ codes "\n")))
 refusal_line NoMemory = no_memory_line
-
--- the line of a refusal of the bytes
-pub record IsRefusalLine (bytes line : List ℕ) : Type 0 where
-  pub refusal : Refusal
-  pub refused : IsRefused bytes refusal
-  pub is : line ≡ refusal_line refusal
 
 -- a line that may be told where bytes have the refusal: its own, or that of want of memory
 abbrev pub IsLineOf : Refusal → List ℕ → Type 0

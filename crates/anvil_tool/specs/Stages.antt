@@ -8,10 +8,8 @@ use Rattle.anvil_tree.specs.Tree.{File}
 use Rattle.plain_file.specs.Plain.{Counter, IsPlainFile}
 use Rattle.anvil_tool.specs.declared.refusal.Refusal.{Refusal}
 use Rattle.anvil_tool.specs.Form.{Command, check, compile, run, Form}
-use Rattle.anvil_tool.specs.FileText.{IsCheckedText}
-use Rattle.anvil_tool.specs.Output.{IsOutput}
-use Rattle.anvil_tool.specs.Check.{IsCheckRefused, IsAcceptedText, IsAcceptedLine}
-use Rattle.anvil_tool.specs.Refused.{IsRefused}
+use Rattle.anvil_tool.specs.Output.{IsOutput, IsRefused}
+use Rattle.anvil_tool.specs.Check.{IsCheckRefused, IsAcceptedFile, IsAcceptedText, IsAcceptedLine}
 use Rattle.anvil_tool.specs.Run.{IsProcessRefused, IsTextRefused, HasProcess, HasRun, IsLog, IsLogFront, IsBrokenLog}
 
 -- what the stages of a command say of the bytes that they have
@@ -43,11 +41,11 @@ check_writes (file ∷ other ∷ more) text = ⊥
 
 -- `compile`: FILE has modules, or is refused.
 
--- bytes that spell a plain file that passes its checks
+-- bytes that spell an accepted file that is plain
 pub record IsPlainText (bytes : List ℕ) : Type 0 where
   pub file : File
   pub counters : List Counter
-  pub spelled : IsCheckedText bytes file
+  pub accepted : IsAcceptedFile bytes file
   pub plain : IsPlainFile counters file
 
 abbrev pub compile_refuses : List (List ℕ) → Refusal → Type 0

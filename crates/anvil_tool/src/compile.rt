@@ -2,15 +2,13 @@
 ghost use Rattle.std.specs.Prelude.{◌≡◌, ◌≢◌, ◌⊎◌, ◌≤◌, ◌<◌, [], ◌∷◌, List, ℕ, length, IfSome};
 ghost use Rattle.std.specs.Io.KnownBytes.{Appends};
 ghost use Rattle.anvil_io.specs.Causes.{AppendsPrefix, Puts, Rose};
-ghost use Rattle.anvil_tree.specs.Tree.{File};
 ghost use Rattle.sv_tree.specs.Text.{modules_text};
-ghost use Rattle.plain_file.specs.Plain.{Counter, IsPlainFile};
 ghost use Rattle.anvil_tool.specs.declared.refusal.Refusal.{Refusal};
 ghost use Rattle.anvil_tool.specs.Form.{compile_form, longest_file};
 ghost use Rattle.anvil_tool.specs.Answer.{HasNoFault, IsFirstRefusal, IsLine, IsReadFault, IsRefusedBy, IsTooLong, IsUntouched, IsWritten, LineFailed, OutFailed, Overflows, Ends, Tells};
-ghost use Rattle.anvil_tool.specs.FileText.{IsCheckedText};
-ghost use Rattle.anvil_tool.specs.Output.{IsOutput};
-ghost use Rattle.anvil_tool.specs.Refused.{IsLineOf, IsRefusalLine, IsRefused, no_memory_line, refusal_line};
+ghost use Rattle.anvil_tool.specs.Output.{IsOutput, IsRefusalLine, IsRefused};
+ghost use Rattle.anvil_tool.specs.Refused.{IsLineOf, no_memory_line, refusal_line};
+ghost use Rattle.anvil_tool.specs.Stages.{IsPlainText};
 
 use crate::complain::{complain, complain_of, complain_refusal};
 use crate::modules::modules_of_bytes;
@@ -118,8 +116,7 @@ fn compile<O: Sink, E: Sink>(alloc: Global, bytes: &[u8], out: &mut O, err: &mut
         × AppendsPrefix (E.held err.old) (E.held err.new) line × Rose (E.faults err.old) (E.faults err.new)) }
     ensures later { O.faults out.old ≤ O.faults out.new }
     ensures err_later { E.faults err.old ≤ E.faults err.new }
-    ensures complete { (file : File) (counters : List Counter) → IsCheckedText bytes.now file
-        → IsPlainFile counters file → HasNoFault (O.faults out.old) (O.faults out.new)
+    ensures complete { IsPlainText bytes.now → HasNoFault (O.faults out.old) (O.faults out.new)
         → HasNoFault (E.faults err.old) (E.faults err.new) → (result ≡ Status.Done) ⊎ (result ≡ Status.NoMemory) }
 {
     let modules = match modules_of_bytes(alloc, bytes) {

@@ -7,10 +7,11 @@ ghost use Rattle.anvil_tree.specs.Order.{ActsNeverFall};
 ghost use Rattle.anvil_tree.specs.Tree as tree;
 ghost use Rattle.anvil_tree.specs.View.{file_of};
 ghost use Rattle.anvil_grammar.specs.Refusal.{IsAccepted, IsFirstRefusal};
-ghost use Rattle.core_file.specs.CoreFile.{placed_of};
+ghost use Rattle.channel_classes.specs.Classes.{classes_of};
+ghost use Rattle.core_file.specs.CoreFile.{core_file, placed_of};
 ghost use Rattle.core_file.specs.IsCoreFile.{IsCoreFileOf};
-ghost use Rattle.anvil_tool.specs.FileText.{IsChecked, IsFileText};
-ghost use Rattle.anvil_tool.specs.Refused.{IsUnchecked, IsUnread, of_lexer, of_parser};
+ghost use Rattle.anvil_tool.specs.FileText.{IsChecked, IsCheckedText, IsFileText};
+ghost use Rattle.anvil_tool.specs.Refused.{IsFileRefused, IsUnchecked, IsUnread, of_lexer, of_parser};
 
 use crate::refusal::{Refusal, of_classes, of_lexer, of_parser, of_processes};
 use anvil_lexer::{LexErr, Token, lex};
@@ -96,5 +97,35 @@ pub(crate) fn core_of_file(alloc: Global, file: &File) -> Result<CoreFile, Refus
     match resolve(alloc, file, &classes) {
         Ok(core) => Ok(core),
         Err(fault) => Err(of_processes(&fault)),
+    }
+}
+
+/// A file as it is written, and as it is when all names are resolved.
+#[derive(Drop)]
+pub(crate) struct Front {
+    pub(crate) tree: File,
+    pub(crate) core: CoreFile,
+}
+
+/// The file that the bytes spell with its core file, or why there is none.
+pub(crate) fn core_of_bytes(alloc: Global, bytes: &[u8]) -> Result<Front, Refusal>
+    requires { length bytes.now ≤ 2 ^ 20 }
+    ensures spelled { IfOk result (λ front. IsCheckedText bytes.now (file_of front.tree)) }
+    ensures core { IfOk result (λ front. map placed_of front.core.procs.items
+        ≡ core_file (classes_of (file_of front.tree)) (file_of front.tree)) }
+    ensures refused { IfErr result (λ refusal. refusal ≢ Refusal.NoMemory → IsFileRefused bytes.now refusal) }
+    ensures every_refusal { (refusal : Refusal) → IsFileRefused bytes.now refusal
+        → MatchResult result (λ _. ⊥) (λ found. (found ≡ refusal) ⊎ (found ≡ Refusal.NoMemory)) }
+    ensures every_file { (file : tree.File) → IsCheckedText bytes.now file
+        → MatchResult result (λ front. file_of front.tree ≡ file) (λ refusal. refusal ≡ Refusal.NoMemory) }
+{
+    core_file::laws::core_file_is_one();
+    let tree = match file_of_bytes(alloc, bytes) {
+        Ok(tree) => tree,
+        Err(refusal) => return Err(refusal),
+    };
+    match core_of_file(alloc, &tree) {
+        Ok(core) => Ok(Front { tree, core }),
+        Err(refusal) => Err(refusal),
     }
 }

@@ -1,16 +1,14 @@
 //! The modules of the processes of a plain file.
 ghost use Rattle.std.specs.Prelude.{◌≡◌, ◌≢◌, ◌⊎◌, ◌≤◌, ◌^◌, List, ℕ, length, map, IfErr, IfOk, MatchOption, MatchResult};
 ghost use Rattle.std.specs.List.{All};
-ghost use Rattle.anvil_tree.specs.Tree as tree;
 ghost use Rattle.anvil_tree.specs.View.{file_of};
 ghost use Rattle.plain_file.specs.Plain.{Counter, IsCounter, IsPlainFile};
 ghost use Rattle.plain_file.specs.Seen.{counter_of};
-ghost use Rattle.anvil_tool.specs.FileText.{IsCheckedText};
-ghost use Rattle.anvil_tool.specs.Output.{AreModules, AreModulesOf, AreModulesOfFile, IsModule};
-ghost use Rattle.anvil_tool.specs.Refused.{IsNotPlain, IsRefused, not_built};
+ghost use Rattle.anvil_tool.specs.Output.{AreModules, AreModulesOf, AreModulesOfFile, IsModule, IsNotPlain, IsRefused, not_built};
+ghost use Rattle.anvil_tool.specs.Stages.{IsPlainText};
 
-use crate::front::{core_of_file, file_of_bytes};
 use crate::refusal::{Code, Refusal};
+use crate::rules::accepted_of_bytes;
 use anvil_tree::File;
 use fsm_builder::{Bits, SvModule, build_counter};
 use plain_file::{Plain, read_plain};
@@ -67,22 +65,17 @@ fn modules_of_file(alloc: Global, file: &File) -> Result<Vec<SvModule>, Refusal>
     }
 }
 
-/// The modules of the processes of the plain file that the bytes spell, or why there are none.
+/// The modules of the processes of the accepted plain file that the bytes spell, or why there are none.
 pub(crate) fn modules_of_bytes(alloc: Global, bytes: &[u8]) -> Result<Vec<SvModule>, Refusal>
     requires { length bytes.now ≤ 2 ^ 20 }
     ensures modules { IfOk result (λ modules. AreModulesOf bytes.now modules.items) }
     ensures refused { IfErr result (λ refusal. refusal ≢ Refusal.NoMemory → IsRefused bytes.now refusal) }
     ensures every_refusal { (refusal : Refusal) → IsRefused bytes.now refusal
         → MatchResult result (λ _. ⊥) (λ found. (found ≡ refusal) ⊎ (found ≡ Refusal.NoMemory)) }
-    ensures every_file { (file : tree.File) (counters : List Counter) → IsCheckedText bytes.now file
-        → IsPlainFile counters file → IfErr result (λ refusal. refusal ≡ Refusal.NoMemory) }
+    ensures every_file { IsPlainText bytes.now → IfErr result (λ refusal. refusal ≡ Refusal.NoMemory) }
 {
-    let file = match file_of_bytes(alloc, bytes) {
-        Ok(file) => file,
-        Err(refusal) => return Err(refusal),
-    };
-    match core_of_file(alloc, &file) {
-        Ok(_) => modules_of_file(alloc, &file),
+    match accepted_of_bytes(alloc, bytes) {
+        Ok(file) => modules_of_file(alloc, &file),
         Err(refusal) => Err(refusal),
     }
 }

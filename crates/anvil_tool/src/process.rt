@@ -1,36 +1,13 @@
 //! The process that a command is asked for.
 ghost use Rattle.std.specs.Prelude.{◌≡◌, ◌≢◌, ◌⊎◌, ◌≤◌, ◌<◌, ◌^◌, List, ℕ, None, Some, get_or, length, map, IfErr, IfOk, MatchOption, MatchResult};
-ghost use Rattle.channel_classes.specs.Classes.{classes_of};
-ghost use Rattle.core_file.specs.CoreFile.{core_file, placed_of};
+ghost use Rattle.core_file.specs.CoreFile.{placed_of};
 ghost use Rattle.core_term.specs.ProcessView.{process_of};
-ghost use Rattle.anvil_tree.specs.Tree as tree;
-ghost use Rattle.anvil_tool.specs.FileText.{IsCheckedText};
-ghost use Rattle.anvil_tool.specs.Refused.{IsFileRefused};
 ghost use Rattle.anvil_tool.specs.Run.{HasProcess, IsProcessOf, IsProcessRefused, process_named};
 
-use crate::front::{core_of_file, file_of_bytes};
+use crate::front::{Front, core_of_bytes};
 use crate::refusal::{Code, Refusal};
 use core_term::{CoreFile, CoreProc};
 use std::alloc::Global;
-
-/// The core file of the file that the bytes spell, or why there is none.
-pub(crate) fn core_of_bytes(alloc: Global, bytes: &[u8]) -> Result<CoreFile, Refusal>
-    requires { length bytes.now ≤ 2 ^ 20 }
-    ensures core { IfOk result (λ core. (file : tree.File) × IsCheckedText bytes.now file
-        × (map placed_of core.procs.items ≡ core_file (classes_of file) file)) }
-    ensures refused { IfErr result (λ refusal. refusal ≢ Refusal.NoMemory → IsFileRefused bytes.now refusal) }
-    ensures every_refusal { (refusal : Refusal) → IsFileRefused bytes.now refusal
-        → MatchResult result (λ _. ⊥) (λ found. (found ≡ refusal) ⊎ (found ≡ Refusal.NoMemory)) }
-    ensures every_file { (file : tree.File) → IsCheckedText bytes.now file
-        → IfErr result (λ refusal. refusal ≡ Refusal.NoMemory) }
-{
-    core_file::laws::core_file_is_one();
-    let file = match file_of_bytes(alloc, bytes) {
-        Ok(file) => file,
-        Err(refusal) => return Err(refusal),
-    };
-    core_of_file(alloc, &file)
-}
 
 // Where the first process of the name stands.
 fn find_process(core: &CoreFile, name: &[u8]) -> Option<usize>
@@ -63,8 +40,8 @@ pub(crate) fn process_of_bytes(
         → MatchResult result (λ _. ⊥) (λ found. (found ≡ refusal) ⊎ (found ≡ Refusal.NoMemory)) }
     ensures every_process { HasProcess bytes.now name.now → IfErr result (λ refusal. refusal ≡ Refusal.NoMemory) }
 {
-    let mut core = match core_of_bytes(alloc, bytes) {
-        Ok(core) => core,
+    let Front { mut core, .. } = match core_of_bytes(alloc, bytes) {
+        Ok(front) => front,
         Err(refusal) => return Err(refusal),
     };
     match find_process(&core, name) {

@@ -1,12 +1,14 @@
 //! A file that keeps the timing rules, or why it does not.
-ghost use Rattle.std.specs.Prelude.{◌≡◌, ◌≢◌, ◌⊎◌, ◌≤◌, ◌^◌, List, ℕ, length, IfErr, MatchResult, OnOk};
+ghost use Rattle.std.specs.Prelude.{◌≡◌, ◌≢◌, ◌⊎◌, ◌≤◌, ◌^◌, List, ℕ, length, IfErr, IfOk, MatchResult, OnOk};
+ghost use Rattle.anvil_tree.specs.View.{file_of};
 ghost use Rattle.core_term.specs.AcceptedFile.{AllRunSafely, file_of as processes_of};
 ghost use Rattle.core_term.specs.Violations.{HasNoViolations};
-ghost use Rattle.anvil_tool.specs.Check.{IsAcceptedText, IsCheckRefused};
+ghost use Rattle.anvil_tool.specs.Check.{IsAcceptedFile, IsAcceptedText, IsCheckRefused};
 ghost use Rattle.anvil_tool.specs.Ruled.{IsRejectedCore};
 
-use crate::process::core_of_bytes;
+use crate::front::{Front, core_of_bytes};
 use crate::refusal::{Refusal, code_of};
+use anvil_tree::File;
 use core_term::{Accepted, CoreFile};
 use std::alloc::Global;
 use timing_check::{TimingErr, check_timing};
@@ -36,16 +38,20 @@ fn accepted_of(alloc: Global, core: CoreFile) -> Result<Accepted, Refusal>
 }
 
 /// The accepted file that the bytes spell, or why they spell none.
-pub(crate) fn accepted_of_bytes(alloc: Global, bytes: &[u8]) -> Result<Accepted, Refusal>
+pub(crate) fn accepted_of_bytes(alloc: Global, bytes: &[u8]) -> Result<File, Refusal>
     requires { length bytes.now ≤ 2 ^ 20 }
-    ensures accepted { OnOk result (IsAcceptedText bytes.now) }
+    ensures accepted { IfOk result (λ tree. IsAcceptedFile bytes.now (file_of tree)) }
     ensures refused { IfErr result (λ refusal. refusal ≢ Refusal.NoMemory → IsCheckRefused bytes.now refusal) }
     ensures every_refusal { (refusal : Refusal) → IsCheckRefused bytes.now refusal
         → MatchResult result (λ _. ⊥) (λ found. (found ≡ refusal) ⊎ (found ≡ Refusal.NoMemory)) }
     ensures every_file { IsAcceptedText bytes.now → IfErr result (λ refusal. refusal ≡ Refusal.NoMemory) }
 {
-    match core_of_bytes(alloc, bytes) {
-        Ok(core) => accepted_of(alloc, core),
+    let Front { tree, core } = match core_of_bytes(alloc, bytes) {
+        Ok(front) => front,
+        Err(refusal) => return Err(refusal),
+    };
+    match accepted_of(alloc, core) {
+        Ok(_) => Ok(tree),
         Err(refusal) => Err(refusal),
     }
 }

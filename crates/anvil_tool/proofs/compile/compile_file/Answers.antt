@@ -34,7 +34,7 @@ pub returns-in-Ok-clause-complete : goal.returns-in-Ok-clause-complete
 returns-in-Ok-clause-complete g c = λ loaded ends fine out_fine err_fine.
     let (bytes, tells, plain) = plain_told (Tells (g.S.Shelf.told c.args.shelf.now)) c.args.file.now loaded ends.passes in
     let same : c.load.new.into.items ≡ bytes = told_loaded _ bytes c.load.new.into.items tells.tells c.in-Ok.ensures.bytes in
-    c.compile.ensures.complete plain.file plain.counters (rw c.deref.ensures.value (rw same plain.spelled)) plain.plain out_fine err_fine
+    c.compile.ensures.complete (rw c.deref.ensures.value (rw same plain)) out_fine err_fine
 
 pub returns-in-Ok-clause-write_fault : goal.returns-in-Ok-clause-write_fault
 returns-in-Ok-clause-write_fault g c = λ failed.

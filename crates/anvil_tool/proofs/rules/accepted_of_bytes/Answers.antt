@@ -1,34 +1,43 @@
 -- No core file, one that keeps the rules, or one that breaks them.
-use Rattle.anvil_tool.specs.Check.{by_file}
-use Rattle.anvil_tool.proofs.Ruled.{told_by_core, accepted_told, refused_told, each_told, file_told}
+use Rattle.std.specs.Prelude.{◌≢◌}
+use Rattle.anvil_tree.specs.View.{file_of}
+use Rattle.anvil_tool.specs.declared.refusal.Refusal.TheVariants.{NoMemory}
+use Rattle.anvil_tool.specs.Check.{IsAcceptedFile, IsCheckRefused, by_file, by_rules}
+use Rattle.anvil_tool.proofs.Ruled.{accepted_by, rejected_by, accepted_or_refused, each_told, file_told}
 use Rattle.anvil_tool.proofs.rules.accepted_of_bytes.Goals as goal
-
-pub returns-in-Ok-clause-accepted : goal.returns-in-Ok-clause-accepted
-returns-in-Ok-clause-accepted c =
-    let (file, text, core) = c.in-Ok.ensures.core in
-    let found = c.accepted_of.ensures in
-    accepted_told c.args.bytes.now file c.in-Ok.core.procs.items text core c.accepted_of.result found.accepted found.safe found.refused
-
-pub returns-in-Ok-clause-refused : goal.returns-in-Ok-clause-refused
-returns-in-Ok-clause-refused c =
-    let (file, text, core) = c.in-Ok.ensures.core in
-    let found = c.accepted_of.ensures in
-    refused_told c.args.bytes.now file c.in-Ok.core.procs.items text core c.accepted_of.result found.accepted found.safe found.refused
-
-pub returns-in-Ok-clause-every_refusal : goal.returns-in-Ok-clause-every_refusal
-returns-in-Ok-clause-every_refusal c =
-    let (file, text, core) = c.in-Ok.ensures.core in
-    let found = c.accepted_of.ensures in
-    each_told c.args.bytes.now file c.in-Ok.core.procs.items text core c.accepted_of.result found.accepted found.safe found.refused
-
-pub returns-in-Ok-clause-every_file : goal.returns-in-Ok-clause-every_file
-returns-in-Ok-clause-every_file c =
-    let (file, text, core) = c.in-Ok.ensures.core in
-    let found = c.accepted_of.ensures in
-    file_told c.args.bytes.now file c.in-Ok.core.procs.items text core c.accepted_of.result found.accepted found.safe found.refused
 
 pub returns-in-Err-clause-refused : goal.returns-in-Err-clause-refused
 returns-in-Err-clause-refused c = λ not_memory. by_file c.in-Err.refusal (c.in-Err.ensures.refused not_memory)
 
 pub returns-in-Err-clause-every_refusal : goal.returns-in-Err-clause-every_refusal
-returns-in-Err-clause-every_refusal c = told_by_core c.args.bytes.now c.in-Err.refusal c.in-Err.ensures.every_file c.in-Err.ensures.every_refusal
+returns-in-Err-clause-every_refusal c = each_told c.args.bytes.now c.in-Err.refusal (λ not_memory. by_file c.in-Err.refusal (c.in-Err.ensures.refused not_memory))
+
+pub returns-in-Err-clause-every_file : goal.returns-in-Err-clause-every_file
+returns-in-Err-clause-every_file c = file_told c.args.bytes.now c.in-Err.refusal (λ not_memory. by_file c.in-Err.refusal (c.in-Err.ensures.refused not_memory))
+
+pub returns-in-Ok-accepted_of-clause-accepted : goal.returns-in-Ok-accepted_of-clause-accepted
+returns-in-Ok-accepted_of-clause-accepted c =
+    accepted_by (file_of c.in-Ok.front.tree) c.in-Ok.front.core.procs.items c.in-Ok.ensures.core c.args.bytes.now c.in-Ok.ensures.spelled
+    c.in-Ok-accepted_of.ensures.accepted c.in-Ok-accepted_of.ensures.safe
+
+pub returns-in-Ok-accepted_of-clause-every_refusal : goal.returns-in-Ok-accepted_of-clause-every_refusal
+returns-in-Ok-accepted_of-clause-every_refusal c = λ refusal refused.
+    let is : IsAcceptedFile c.args.bytes.now (file_of c.in-Ok.front.tree) =
+    accepted_by (file_of c.in-Ok.front.tree) c.in-Ok.front.core.procs.items c.in-Ok.ensures.core c.args.bytes.now c.in-Ok.ensures.spelled
+    c.in-Ok-accepted_of.ensures.accepted c.in-Ok-accepted_of.ensures.safe in
+    accepted_or_refused c.args.bytes.now refusal refused (record { file = file_of c.in-Ok.front.tree; is = is })
+
+pub returns-in-Err-accepted_of-clause-refused : goal.returns-in-Err-accepted_of-clause-refused
+returns-in-Err-accepted_of-clause-refused c = λ not_memory.
+    by_rules (file_of c.in-Ok.front.tree) c.in-Err-accepted_of.refusal c.in-Ok.ensures.spelled
+    (rejected_by (file_of c.in-Ok.front.tree) c.in-Ok.front.core.procs.items c.in-Ok.ensures.core c.in-Err-accepted_of.refusal (c.in-Err-accepted_of.ensures.refused not_memory))
+
+pub returns-in-Err-accepted_of-clause-every_refusal : goal.returns-in-Err-accepted_of-clause-every_refusal
+returns-in-Err-accepted_of-clause-every_refusal c =
+    let told : c.in-Err-accepted_of.refusal ≢ NoMemory → IsCheckRefused c.args.bytes.now c.in-Err-accepted_of.refusal = returns-in-Err-accepted_of-clause-refused c in
+    each_told c.args.bytes.now c.in-Err-accepted_of.refusal told
+
+pub returns-in-Err-accepted_of-clause-every_file : goal.returns-in-Err-accepted_of-clause-every_file
+returns-in-Err-accepted_of-clause-every_file c =
+    let told : c.in-Err-accepted_of.refusal ≢ NoMemory → IsCheckRefused c.args.bytes.now c.in-Err-accepted_of.refusal = returns-in-Err-accepted_of-clause-refused c in
+    file_told c.args.bytes.now c.in-Err-accepted_of.refusal told
