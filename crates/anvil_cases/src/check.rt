@@ -123,14 +123,23 @@ fn files_are_accepted_or_refused(rt: HostRuntime) -> Result<(), Fail> {
 }
 
 #[test]
-fn compile_refuses_them_with_the_same_line(rt: HostRuntime) -> Result<(), Fail> {
+fn compile_and_run_refuse_them_with_the_same_line(rt: HostRuntime) -> Result<(), Fail> {
     for (what, file, answer) in FILES.iter() {
         if !answer.is_empty() {
-            let end = run(rt.alloc(), &["compile", "f"], file.as_bytes(), NO_FAULTS)?;
             let line = format!(in rt.alloc(); "refused: {answer}\n")?;
-            assert!(rt; end.status == Status::Refused, "{what}");
-            assert_eq!(rt; end.out.bytes(), b"".as_slice());
-            assert_eq!(rt; end.err.bytes(), line.as_bytes(), "{what}");
+            let compiled = run(rt.alloc(), &["compile", "f"], file.as_bytes(), NO_FAULTS)?;
+            assert!(rt; compiled.status == Status::Refused, "{what}");
+            assert_eq!(rt; compiled.out.bytes(), b"".as_slice());
+            assert_eq!(rt; compiled.err.bytes(), line.as_bytes(), "{what}");
+            let ran = run(
+                rt.alloc(),
+                &["run", "f", "none", "s"],
+                file.as_bytes(),
+                NO_FAULTS,
+            )?;
+            assert!(rt; ran.status == Status::Refused, "{what}");
+            assert_eq!(rt; ran.out.bytes(), b"".as_slice());
+            assert_eq!(rt; ran.err.bytes(), line.as_bytes(), "{what}");
         }
     }
     Ok(())

@@ -3,7 +3,7 @@
 -- The claim: bytes have one process of a name at most, or none, or no core file; and the ports of a process are within the limits.
 -- The argument: bytes spell one file, and that has one core file; what its checks say of endpoints and classes is what is asked of
 -- ports.
-use Rattle.std.proofs.Common.{◌≡◌, ◌∙◌, ◌⊎◌, inl, inr, ℕ, zero, suc, ◌+◌, ◌<◌, Bool, true, false, List, [], ◌∷◌, ◌++◌, length, get_or, map, drop, Some, None, refl, ap, sym, subst, arith}
+use Rattle.std.proofs.Common.{◌≡◌, ◌≢◌, ◌⊎◌, inl, inr, ◌∙◌, ◌⊎◌, inl, inr, ℕ, zero, suc, ◌+◌, ◌<◌, Bool, true, false, List, [], ◌∷◌, ◌++◌, length, get_or, map, drop, Some, None, refl, ap, sym, subst, arith}
 use Rattle.std.specs.Prelude.{IsTrue, bytes_eq}
 use Rattle.std.specs.List.{list_all}
 use Rattle.anvil_tree.specs.Tree.{File, Name, class, process}
@@ -25,42 +25,48 @@ use Rattle.core_term.specs.Sized.{port_fits}
 use Rattle.stim_text.proofs.Decided.{some_same}
 use Rattle.anvil_tool.specs.declared.refusal.Refusal.{Refusal}
 use Rattle.anvil_tool.specs.declared.refusal.Refusal.TheVariants.{NoMemory}
-use Rattle.anvil_tool.specs.FileText.{IsCheckedText}
-use Rattle.anvil_tool.specs.Refused.{IsFileRefused}
-use Rattle.anvil_tool.specs.Run.{process_named, IsProcessOf, HasProcess, HasNoProcess, IsProcessRefused, by_file, no_process}
-use Rattle.anvil_tool.proofs.OneRefusal.{one_file, file_refused_once, checked_or_refused}
+use Rattle.anvil_tool.specs.Run.{process_named, IsProcessOf, HasProcess, HasNoProcess, IsProcessRefused, by_check, no_process}
+use Rattle.anvil_tool.proofs.OneRefusal.{one_file}
+use Rattle.anvil_tool.proofs.Ruled.{check_refused_once, accepted_or_refused, memory_or_refusal}
 
 -- One process of a name.
 
 pub same_process : (bytes name : List ℕ) (one other : Process) → IsProcessOf bytes name one → IsProcessOf bytes name other → one ≡ other
 same_process bytes name one other is is_too =
-    let same = one_file bytes is.file is_too.file is.spelled.spelled is_too.spelled.spelled in
+    let same = one_file bytes is.file is_too.file is.accepted.spelled.spelled is_too.accepted.spelled.spelled in
     let named : Some one ≡ Some other = sym is.named ∙ (ap (λ file. process_named name (core_file (classes_of file) file)) same ∙ is_too.named) in
     cc
 
 pub process_or_none : (bytes name : List ℕ) (one : Process) → IsProcessOf bytes name one → HasNoProcess bytes name → ⊥
 process_or_none bytes name one is none =
-    let same = one_file bytes is.file none.file is.spelled.spelled none.spelled.spelled in
+    let same = one_file bytes is.file none.file is.accepted.spelled.spelled none.accepted.spelled.spelled in
     let named : Some one ≡ None = sym is.named ∙ (ap (λ file. process_named name (core_file (classes_of file) file)) same ∙ none.named) in
     cc
 
 pub process_refused_once : (bytes name : List ℕ) (one other : Refusal) → IsProcessRefused bytes name one → IsProcessRefused bytes name other → one ≡ other
-process_refused_once bytes name one other (by_file told first) (by_file found second) = file_refused_once bytes one other first second
-process_refused_once bytes name one other (by_file told first) (no_process none) = absurd (checked_or_refused bytes none.file one none.spelled first)
-process_refused_once bytes name one other (no_process none) (by_file found second) = absurd (checked_or_refused bytes none.file other none.spelled second)
+process_refused_once bytes name one other (by_check told first) (by_check found second) = check_refused_once bytes one other first second
+process_refused_once bytes name one other (by_check told first) (no_process none) = absurd (accepted_or_refused bytes one first (record { file = none.file; is = none.accepted }))
+process_refused_once bytes name one other (no_process none) (by_check found second) = absurd (accepted_or_refused bytes other second (record { file = none.file; is = none.accepted }))
 process_refused_once bytes name one other (no_process none) (no_process none_too) = refl
 
 pub process_or_refused : (bytes name : List ℕ) (refusal : Refusal) → IsProcessRefused bytes name refusal → HasProcess bytes name → ⊥
-process_or_refused bytes name refusal (by_file told first) has = checked_or_refused bytes has.of_file.file refusal has.of_file.spelled first
+process_or_refused bytes name refusal (by_check told first) has = accepted_or_refused bytes refusal first (record { file = has.of_file.file; is = has.of_file.accepted })
 process_or_refused bytes name refusal (no_process none) has = process_or_none bytes name has.process has.of_file none
 
--- What is told where there is no core file, and where there is.
+-- What is told where a file is not accepted.
 
-pub told_by_core : (bytes name : List ℕ) (found : Refusal) → ((file : File) → IsCheckedText bytes file → found ≡ NoMemory)
-    → ((refusal : Refusal) → IsFileRefused bytes refusal → (found ≡ refusal) ⊎ (found ≡ NoMemory))
+pub each_told : (bytes name : List ℕ) (found : Refusal) → (found ≢ NoMemory → IsProcessRefused bytes name found)
     → (refusal : Refusal) → IsProcessRefused bytes name refusal → (found ≡ refusal) ⊎ (found ≡ NoMemory)
-told_by_core bytes name found no_file each refusal (by_file told of_file) = each refusal of_file
-told_by_core bytes name found no_file each refusal (no_process none) = inr (no_file none.file none.spelled)
+each_told bytes name found told refusal refused = elim (memory_or_refusal found) [
+  | inl memory ↦ inr memory
+  | inr not_memory ↦ inl (process_refused_once bytes name found refusal (told not_memory) refused)
+]
+
+pub process_told : (bytes name : List ℕ) (found : Refusal) → (found ≢ NoMemory → IsProcessRefused bytes name found) → HasProcess bytes name → found ≡ NoMemory
+process_told bytes name found told has = elim (memory_or_refusal found) [
+  | inl memory ↦ memory
+  | inr not_memory ↦ absurd (process_or_refused bytes name found (told not_memory) has)
+]
 
 -- Ports within the limits.
 
@@ -82,8 +88,8 @@ named_in classes before (process written ∷ items) name one fit held is = by_ca
 
 pub ports_fit : (bytes name : List ℕ) (one : Process) → IsProcessOf bytes name one → IsTrue (list_all port_fits one.ports)
 ports_fit bytes name one is =
-    named_in (classes_of is.file) [] is.file name one (classes_fit [] is.file (all_hold (checks_of_classes is.file) is.spelled.checked.classes))
-    (file_held (classes_of is.file) [] is.file (all_hold (checks_of_processes (classes_of is.file) is.file) is.spelled.checked.processes)) is.named
+    named_in (classes_of is.file) [] is.file name one (classes_fit [] is.file (all_hold (checks_of_classes is.file) is.accepted.spelled.checked.classes))
+    (file_held (classes_of is.file) [] is.file (all_hold (checks_of_processes (classes_of is.file) is.file) is.accepted.spelled.checked.processes)) is.named
 
 -- A port of the code.
 pub nth_is : (ports : List CorePort) (n : ℕ) (port : CorePort) → n < length ports → port ≡ get_or ports n port → nth_port (map port_of ports) n ≡ port_of port
@@ -115,3 +121,8 @@ pub same_item : (procs : List CoreProc) (n : ℕ) (proc default : CoreProc) → 
 same_item [] n proc default inside is = absurd (omega arith)
 same_item (first ∷ procs) zero proc default inside is = sym is
 same_item (first ∷ procs) (suc n) proc default inside is = same_item procs n proc default (omega arith) is
+
+-- a list with a place has an item
+pub item_of : (procs : List CoreProc) (n : ℕ) → n < length procs → CoreProc
+item_of [] n inside = absurd (omega (arith, inside))
+item_of (first ∷ procs) n inside = first

@@ -13,8 +13,7 @@ use Rattle.source_log.specs.Log.{wires_on, log_to, IsKeptTo}
 use Rattle.anvil_tool.specs.declared.refusal.Code.TheVariants as code
 use Rattle.anvil_tool.specs.declared.refusal.Refusal.{Refusal}
 use Rattle.anvil_tool.specs.declared.refusal.Refusal.TheVariants.{Bare, Lined}
-use Rattle.anvil_tool.specs.FileText.{IsCheckedText}
-use Rattle.anvil_tool.specs.Refused.{IsFileRefused}
+use Rattle.anvil_tool.specs.Check.{IsAcceptedFile, IsCheckRefused}
 
 -- the process of the name
 abbrev pub process_named : List ℕ → List Placed → Option Process
@@ -22,21 +21,21 @@ process_named name [] = None
 process_named name (placed ∷ more) =
     if bytes_eq placed.process.name name then Some placed.process else process_named name more
 
--- the bytes spell a file that passes, in which this process has the name
+-- the bytes spell an accepted file, in which this process has the name
 pub record IsProcessOf (bytes name : List ℕ) (process : Process) : Type 0 where
   pub file : File
-  pub spelled : IsCheckedText bytes file
+  pub accepted : IsAcceptedFile bytes file
   pub named : process_named name (core_file (classes_of file) file) ≡ Some process
 
 -- or in which none has it
 pub record HasNoProcess (bytes name : List ℕ) : Type 0 where
   pub file : File
-  pub spelled : IsCheckedText bytes file
+  pub accepted : IsAcceptedFile bytes file
   pub named : process_named name (core_file (classes_of file) file) ≡ None
 
--- A file is refused as by every command, or because no process has the name.
+-- A file is refused as by `check`, or because no process has the name.
 pub data IsProcessRefused (bytes name : List ℕ) : Refusal → Type 0 where
-  by_file : (refusal : Refusal) → IsFileRefused bytes refusal → IsProcessRefused bytes name refusal
+  by_check : (refusal : Refusal) → IsCheckRefused bytes refusal → IsProcessRefused bytes name refusal
   no_process : HasNoProcess bytes name → IsProcessRefused bytes name (Bare code.NoProcess)
 
 -- A stimulus of these ports is refused for its first line that is no row, counted from 1, or since it has too many.

@@ -75,7 +75,7 @@ pub(crate) fn modules_of_bytes(alloc: Global, bytes: &[u8]) -> Result<Vec<SvModu
     ensures every_file { IsPlainText bytes.now → IfErr result (λ refusal. refusal ≡ Refusal.NoMemory) }
 {
     match accepted_of_bytes(alloc, bytes) {
-        Ok(file) => modules_of_file(alloc, &file),
+        Ok(found) => modules_of_file(alloc, &found.tree),
         Err(refusal) => Err(refusal),
     }
 }

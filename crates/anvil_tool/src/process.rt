@@ -4,9 +4,9 @@ ghost use Rattle.core_file.specs.CoreFile.{placed_of};
 ghost use Rattle.core_term.specs.ProcessView.{process_of};
 ghost use Rattle.anvil_tool.specs.Run.{HasProcess, IsProcessOf, IsProcessRefused, process_named};
 
-use crate::front::{Front, core_of_bytes};
 use crate::refusal::{Code, Refusal};
-use core_term::{CoreFile, CoreProc};
+use crate::rules::accepted_of_bytes;
+use core_term::{Accepted, CoreFile, CoreProc};
 use std::alloc::Global;
 
 // Where the first process of the name stands.
@@ -25,27 +25,46 @@ fn find_process(core: &CoreFile, name: &[u8]) -> Option<usize>
     None
 }
 
-/// The process of the name in the file that the bytes spell, or why there is none.
-pub(crate) fn process_of_bytes(
-    alloc: Global,
-    bytes: &[u8],
-    name: &[u8],
-) -> Result<CoreProc, Refusal>
+/// A process of an accepted file.
+#[derive(Drop)]
+pub(crate) struct Chosen {
+    file: Accepted,
+    index: usize,
+}
+
+impl Chosen {
+    /// The process.
+    pub(crate) fn process(&self) -> &CoreProc
+        requires { self.now.index < length self.now.file.procs.items }
+        ensures { (default : CoreProc) → result.now ≡ get_or self.now.file.procs.items self.now.index default }
+    {
+        &self.file.file().procs[self.index]
+    }
+}
+
+/// The process of the name in the accepted file that the bytes spell, or why there is none.
+pub(crate) fn process_of_bytes(alloc: Global, bytes: &[u8], name: &[u8]) -> Result<Chosen, Refusal>
     requires { length bytes.now ≤ 2 ^ 20 }
-    ensures process { IfOk result (λ process. IsProcessOf bytes.now name.now
-        (process_of process.name process.ports.items process.regs.items process.threads.items)) }
+    ensures inside { IfOk result (λ chosen. chosen.index < length chosen.file.procs.items) }
+    ensures process { IfOk result (λ chosen. (proc : CoreProc)
+        → proc ≡ get_or chosen.file.procs.items chosen.index proc
+        → IsProcessOf bytes.now name.now
+        (process_of proc.name proc.ports.items proc.regs.items proc.threads.items)) }
     ensures refused { IfErr result
         (λ refusal. refusal ≢ Refusal.NoMemory → IsProcessRefused bytes.now name.now refusal) }
     ensures every_refusal { (refusal : Refusal) → IsProcessRefused bytes.now name.now refusal
         → MatchResult result (λ _. ⊥) (λ found. (found ≡ refusal) ⊎ (found ≡ Refusal.NoMemory)) }
     ensures every_process { HasProcess bytes.now name.now → IfErr result (λ refusal. refusal ≡ Refusal.NoMemory) }
 {
-    let Front { mut core, .. } = match core_of_bytes(alloc, bytes) {
-        Ok(front) => front,
+    let found = match accepted_of_bytes(alloc, bytes) {
+        Ok(found) => found,
         Err(refusal) => return Err(refusal),
     };
-    match find_process(&core, name) {
-        Some(index) => Ok(core.procs.swap_remove(index)),
+    match find_process(found.file.file(), name) {
+        Some(index) => Ok(Chosen {
+            file: found.file,
+            index,
+        }),
         None => Err(Refusal::Bare {
             code: Code::NoProcess,
         }),

@@ -100,7 +100,7 @@ pub fn run_file<S: Shelf, O: Sink, E: Sink>(
     let mut bytes = Vec::new(alloc);
     match shelf.load(file, LONGEST_FILE, &mut bytes) {
         Ok(()) => match process_of_bytes(alloc, &bytes, process.as_bytes()) {
-            Ok(proc) => run_stimulus(alloc, &proc, stimulus, shelf, out, err),
+            Ok(chosen) => run_stimulus(alloc, chosen.process(), stimulus, shelf, out, err),
             Err(refusal) => complain_refusal(err, refusal),
         },
         Err(LoadErr::Fault) => complain_of(err, b"read fault: ", file, Status::ReadFault),

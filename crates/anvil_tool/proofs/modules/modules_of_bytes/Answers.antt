@@ -14,10 +14,10 @@ pub returns-in-Err-clause-every_file : goal.returns-in-Err-clause-every_file
 returns-in-Err-clause-every_file c = plain_told c.args.bytes.now c.in-Err.refusal (λ not_memory. by_check c.in-Err.refusal (c.in-Err.ensures.refused not_memory))
 
 pub returns-in-Ok-clause-refused : goal.returns-in-Ok-clause-refused
-returns-in-Ok-clause-refused c = refused_by_builder c.args.bytes.now (file_of c.in-Ok.file) c.modules_of_file.result c.in-Ok.ensures.accepted c.modules_of_file.ensures.refused
+returns-in-Ok-clause-refused c = refused_by_builder c.args.bytes.now (file_of c.in-Ok.found.tree) c.modules_of_file.result c.in-Ok.ensures.accepted c.modules_of_file.ensures.refused
 
 pub returns-in-Ok-clause-every_refusal : goal.returns-in-Ok-clause-every_refusal
-returns-in-Ok-clause-every_refusal c = told_by_builder c.args.bytes.now (file_of c.in-Ok.file) c.modules_of_file.result c.in-Ok.ensures.accepted c.modules_of_file.ensures.not_plain
+returns-in-Ok-clause-every_refusal c = told_by_builder c.args.bytes.now (file_of c.in-Ok.found.tree) c.modules_of_file.result c.in-Ok.ensures.accepted c.modules_of_file.ensures.not_plain
 
 pub returns-in-Ok-clause-every_file : goal.returns-in-Ok-clause-every_file
-returns-in-Ok-clause-every_file c = no_refusal_by_builder c.args.bytes.now (file_of c.in-Ok.file) c.modules_of_file.result c.in-Ok.ensures.accepted c.modules_of_file.ensures.plain
+returns-in-Ok-clause-every_file c = no_refusal_by_builder c.args.bytes.now (file_of c.in-Ok.found.tree) c.modules_of_file.result c.in-Ok.ensures.accepted c.modules_of_file.ensures.plain

@@ -41,3 +41,6 @@ pub returns-in-Err-accepted_of-clause-every_file : goal.returns-in-Err-accepted_
 returns-in-Err-accepted_of-clause-every_file c =
     let told : c.in-Err-accepted_of.refusal ≢ NoMemory → IsCheckRefused c.args.bytes.now c.in-Err-accepted_of.refusal = returns-in-Err-accepted_of-clause-refused c in
     file_told c.args.bytes.now c.in-Err-accepted_of.refusal told
+
+pub returns-in-Ok-accepted_of-clause-core : goal.returns-in-Ok-accepted_of-clause-core
+returns-in-Ok-accepted_of-clause-core c = rw c.in-Ok-accepted_of.ensures.same c.in-Ok.ensures.core

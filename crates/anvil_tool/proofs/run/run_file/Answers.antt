@@ -1,10 +1,10 @@
 -- The file's own answers, and behind them those of the stimulus.
-use Rattle.std.proofs.Common.{◌≡◌, inl, inr, [], ◌∷◌, length, refl, sym, ap, subst, rules, arith}
+use Rattle.std.proofs.Common.{◌≡◌, ◌⊎◌, inl, inr, [], ◌∷◌, length, refl, sym, ap, subst, rules, arith}
 use Rattle.std.specs.Prelude.{Some}
 use Rattle.std.specs.Io.KnownBytes.{Appends}
 use Rattle.core_term.specs.ProcessView.{process_of}
 use Rattle.anvil_tool.specs.Form.{run_form, file_load, stimulus_load, longest_file}
-use Rattle.anvil_tool.specs.Answer.{MayGive, Tells, Overflows, IsFirstRefusal, Breaks, Ends, HasNoFault, IsReadFault, IsTooLong, IsRefusedBy, IsWritten, IsBreach, BreachFailed, OutFailed, LineFailed, IsLine, Exceeds, of_fault, of_length, of_memory, of_refusal}
+use Rattle.anvil_tool.specs.Answer.{MayGive, Tells, Overflows, IsFirstRefusal, Breaks, Ends, HasNoFault, IsReadFault, IsTooLong, IsRefusedBy, IsWritten, IsBreach, BreachFailed, OutFailed, IsUntouched, LineFailed, IsLine, Exceeds, of_fault, of_length, of_memory, of_refusal}
 use Rattle.anvil_tool.specs.Refused.{refusal_line}
 use Rattle.anvil_tool.specs.Run.{IsProcessOf, IsProcessRefused, HasProcess}
 use Rattle.anvil_tool.specs.Running.{IsBegun}
@@ -18,18 +18,18 @@ pub returns-in-Ok-process_of_bytes-clause-read_fault_line : goal.returns-in-Ok-p
 returns-in-Ok-process_of_bytes-clause-read_fault_line g c = λ is.
     let given : MayGive (g.S.Shelf.told c.args.shelf.now) (file_load c.args.file.now) c.deref.result.now = rw c.deref.ensures.value (record { kept = c.in-Ok.ensures.bytes; within = c.in-Ok.ensures.within }) in
     let same : (g.S.Shelf.told c.load.new.self) ≡ (g.S.Shelf.told c.args.shelf.now) = λ i n. c.load.ensures.kept n i in
-    let of_file : IsProcessOf c.deref.result.now c.args.process.now (process_of c.in-Ok-process_of_bytes.proc.name c.in-Ok-process_of_bytes.proc.ports.items c.in-Ok-process_of_bytes.proc.regs.items c.in-Ok-process_of_bytes.proc.threads.items) = rw c.as_bytes.ensures.value at c.in-Ok-process_of_bytes.ensures.process in
-    let begun : IsBegun (g.S.Shelf.told c.args.shelf.now) c.args.file.now c.args.process.now c.deref.result.now (process_of c.in-Ok-process_of_bytes.proc.name c.in-Ok-process_of_bytes.proc.ports.items c.in-Ok-process_of_bytes.proc.regs.items c.in-Ok-process_of_bytes.proc.threads.items) = record { given = given; of_file = of_file } in
-    let begun_then = subst (λ told. IsBegun told c.args.file.now c.args.process.now c.deref.result.now (process_of c.in-Ok-process_of_bytes.proc.name c.in-Ok-process_of_bytes.proc.ports.items c.in-Ok-process_of_bytes.proc.regs.items c.in-Ok-process_of_bytes.proc.threads.items)) (sym same) begun in
+    let of_file : IsProcessOf c.deref.result.now c.args.process.now (process_of c.process.result.now.name c.process.result.now.ports.items c.process.result.now.regs.items c.process.result.now.threads.items) = rw c.as_bytes.ensures.value at c.in-Ok-process_of_bytes.ensures.process c.process.result.now (c.process.ensures c.process.result.now) in
+    let begun : IsBegun (g.S.Shelf.told c.args.shelf.now) c.args.file.now c.args.process.now c.deref.result.now (process_of c.process.result.now.name c.process.result.now.ports.items c.process.result.now.regs.items c.process.result.now.threads.items) = record { given = given; of_file = of_file } in
+    let begun_then = subst (λ told. IsBegun told c.args.file.now c.args.process.now c.deref.result.now (process_of c.process.result.now.name c.process.result.now.ports.items c.process.result.now.regs.items c.process.result.now.threads.items)) (sym same) begun in
     subst (λ told. IsReadFault told (run_form c.args.file.now c.args.process.now c.args.stimulus.now) (g.E.Sink.held c.args.err.now) (g.E.Sink.held c.run_stimulus.new.err)) same (c.run_stimulus.ensures.read_fault_line c.args.file.now c.args.process.now c.deref.result.now begun_then is)
 
 pub returns-in-Ok-process_of_bytes-clause-too_long : goal.returns-in-Ok-process_of_bytes-clause-too_long
 returns-in-Ok-process_of_bytes-clause-too_long g c = λ is.
     let given : MayGive (g.S.Shelf.told c.args.shelf.now) (file_load c.args.file.now) c.deref.result.now = rw c.deref.ensures.value (record { kept = c.in-Ok.ensures.bytes; within = c.in-Ok.ensures.within }) in
     let same : (g.S.Shelf.told c.load.new.self) ≡ (g.S.Shelf.told c.args.shelf.now) = λ i n. c.load.ensures.kept n i in
-    let of_file : IsProcessOf c.deref.result.now c.args.process.now (process_of c.in-Ok-process_of_bytes.proc.name c.in-Ok-process_of_bytes.proc.ports.items c.in-Ok-process_of_bytes.proc.regs.items c.in-Ok-process_of_bytes.proc.threads.items) = rw c.as_bytes.ensures.value at c.in-Ok-process_of_bytes.ensures.process in
-    let begun : IsBegun (g.S.Shelf.told c.args.shelf.now) c.args.file.now c.args.process.now c.deref.result.now (process_of c.in-Ok-process_of_bytes.proc.name c.in-Ok-process_of_bytes.proc.ports.items c.in-Ok-process_of_bytes.proc.regs.items c.in-Ok-process_of_bytes.proc.threads.items) = record { given = given; of_file = of_file } in
-    let begun_then = subst (λ told. IsBegun told c.args.file.now c.args.process.now c.deref.result.now (process_of c.in-Ok-process_of_bytes.proc.name c.in-Ok-process_of_bytes.proc.ports.items c.in-Ok-process_of_bytes.proc.regs.items c.in-Ok-process_of_bytes.proc.threads.items)) (sym same) begun in
+    let of_file : IsProcessOf c.deref.result.now c.args.process.now (process_of c.process.result.now.name c.process.result.now.ports.items c.process.result.now.regs.items c.process.result.now.threads.items) = rw c.as_bytes.ensures.value at c.in-Ok-process_of_bytes.ensures.process c.process.result.now (c.process.ensures c.process.result.now) in
+    let begun : IsBegun (g.S.Shelf.told c.args.shelf.now) c.args.file.now c.args.process.now c.deref.result.now (process_of c.process.result.now.name c.process.result.now.ports.items c.process.result.now.regs.items c.process.result.now.threads.items) = record { given = given; of_file = of_file } in
+    let begun_then = subst (λ told. IsBegun told c.args.file.now c.args.process.now c.deref.result.now (process_of c.process.result.now.name c.process.result.now.ports.items c.process.result.now.regs.items c.process.result.now.threads.items)) (sym same) begun in
     too_long_in_all (g.S.Shelf.told c.args.shelf.now) (run_form c.args.file.now c.args.process.now c.args.stimulus.now) (g.S.Shelf.taken c.args.shelf.now) (g.S.Shelf.taken c.load.new.self) (g.S.Shelf.taken c.run_stimulus.new.shelf) (g.E.Sink.held c.args.err.now) (g.E.Sink.held c.run_stimulus.new.err) c.load.ensures.too_long.later
     (subst (λ told. IsTooLong told (run_form c.args.file.now c.args.process.now c.args.stimulus.now) (g.S.Shelf.taken c.load.new.self) (g.S.Shelf.taken c.run_stimulus.new.shelf) (g.E.Sink.held c.args.err.now) (g.E.Sink.held c.run_stimulus.new.err)) same (c.run_stimulus.ensures.too_long c.args.file.now c.args.process.now c.deref.result.now begun_then is))
 
@@ -37,9 +37,9 @@ pub returns-in-Ok-process_of_bytes-clause-every_length : goal.returns-in-Ok-proc
 returns-in-Ok-process_of_bytes-clause-every_length g c = λ loaded long fine.
     let given : MayGive (g.S.Shelf.told c.args.shelf.now) (file_load c.args.file.now) c.deref.result.now = rw c.deref.ensures.value (record { kept = c.in-Ok.ensures.bytes; within = c.in-Ok.ensures.within }) in
     let same : (g.S.Shelf.told c.load.new.self) ≡ (g.S.Shelf.told c.args.shelf.now) = λ i n. c.load.ensures.kept n i in
-    let of_file : IsProcessOf c.deref.result.now c.args.process.now (process_of c.in-Ok-process_of_bytes.proc.name c.in-Ok-process_of_bytes.proc.ports.items c.in-Ok-process_of_bytes.proc.regs.items c.in-Ok-process_of_bytes.proc.threads.items) = rw c.as_bytes.ensures.value at c.in-Ok-process_of_bytes.ensures.process in
-    let begun : IsBegun (g.S.Shelf.told c.args.shelf.now) c.args.file.now c.args.process.now c.deref.result.now (process_of c.in-Ok-process_of_bytes.proc.name c.in-Ok-process_of_bytes.proc.ports.items c.in-Ok-process_of_bytes.proc.regs.items c.in-Ok-process_of_bytes.proc.threads.items) = record { given = given; of_file = of_file } in
-    let begun_then = subst (λ told. IsBegun told c.args.file.now c.args.process.now c.deref.result.now (process_of c.in-Ok-process_of_bytes.proc.name c.in-Ok-process_of_bytes.proc.ports.items c.in-Ok-process_of_bytes.proc.regs.items c.in-Ok-process_of_bytes.proc.threads.items)) (sym same) begun in
+    let of_file : IsProcessOf c.deref.result.now c.args.process.now (process_of c.process.result.now.name c.process.result.now.ports.items c.process.result.now.regs.items c.process.result.now.threads.items) = rw c.as_bytes.ensures.value at c.in-Ok-process_of_bytes.ensures.process c.process.result.now (c.process.ensures c.process.result.now) in
+    let begun : IsBegun (g.S.Shelf.told c.args.shelf.now) c.args.file.now c.args.process.now c.deref.result.now (process_of c.process.result.now.name c.process.result.now.ports.items c.process.result.now.regs.items c.process.result.now.threads.items) = record { given = given; of_file = of_file } in
+    let begun_then = subst (λ told. IsBegun told c.args.file.now c.args.process.now c.deref.result.now (process_of c.process.result.now.name c.process.result.now.ports.items c.process.result.now.regs.items c.process.result.now.threads.items)) (sym same) begun in
     let fine_then : HasNoFault (g.S.Shelf.faults c.load.new.self) (g.S.Shelf.faults c.run_stimulus.new.shelf) = subst (λ n. HasNoFault n (g.S.Shelf.faults c.run_stimulus.new.shelf)) (sym c.in-Ok.ensures.fault.ok) fine in
     c.run_stimulus.ensures.every_length c.args.file.now c.args.process.now c.deref.result.now begun_then loaded (subst (λ told. Overflows told (run_form c.args.file.now c.args.process.now c.args.stimulus.now) loaded) (sym same) long) fine_then
 
@@ -47,18 +47,18 @@ pub returns-in-Ok-process_of_bytes-clause-refused : goal.returns-in-Ok-process_o
 returns-in-Ok-process_of_bytes-clause-refused g c = λ is.
     let given : MayGive (g.S.Shelf.told c.args.shelf.now) (file_load c.args.file.now) c.deref.result.now = rw c.deref.ensures.value (record { kept = c.in-Ok.ensures.bytes; within = c.in-Ok.ensures.within }) in
     let same : (g.S.Shelf.told c.load.new.self) ≡ (g.S.Shelf.told c.args.shelf.now) = λ i n. c.load.ensures.kept n i in
-    let of_file : IsProcessOf c.deref.result.now c.args.process.now (process_of c.in-Ok-process_of_bytes.proc.name c.in-Ok-process_of_bytes.proc.ports.items c.in-Ok-process_of_bytes.proc.regs.items c.in-Ok-process_of_bytes.proc.threads.items) = rw c.as_bytes.ensures.value at c.in-Ok-process_of_bytes.ensures.process in
-    let begun : IsBegun (g.S.Shelf.told c.args.shelf.now) c.args.file.now c.args.process.now c.deref.result.now (process_of c.in-Ok-process_of_bytes.proc.name c.in-Ok-process_of_bytes.proc.ports.items c.in-Ok-process_of_bytes.proc.regs.items c.in-Ok-process_of_bytes.proc.threads.items) = record { given = given; of_file = of_file } in
-    let begun_then = subst (λ told. IsBegun told c.args.file.now c.args.process.now c.deref.result.now (process_of c.in-Ok-process_of_bytes.proc.name c.in-Ok-process_of_bytes.proc.ports.items c.in-Ok-process_of_bytes.proc.regs.items c.in-Ok-process_of_bytes.proc.threads.items)) (sym same) begun in
+    let of_file : IsProcessOf c.deref.result.now c.args.process.now (process_of c.process.result.now.name c.process.result.now.ports.items c.process.result.now.regs.items c.process.result.now.threads.items) = rw c.as_bytes.ensures.value at c.in-Ok-process_of_bytes.ensures.process c.process.result.now (c.process.ensures c.process.result.now) in
+    let begun : IsBegun (g.S.Shelf.told c.args.shelf.now) c.args.file.now c.args.process.now c.deref.result.now (process_of c.process.result.now.name c.process.result.now.ports.items c.process.result.now.regs.items c.process.result.now.threads.items) = record { given = given; of_file = of_file } in
+    let begun_then = subst (λ told. IsBegun told c.args.file.now c.args.process.now c.deref.result.now (process_of c.process.result.now.name c.process.result.now.ports.items c.process.result.now.regs.items c.process.result.now.threads.items)) (sym same) begun in
     subst (λ told. IsRefusedBy told (run_form c.args.file.now c.args.process.now c.args.stimulus.now) (g.E.Sink.held c.args.err.now) (g.E.Sink.held c.run_stimulus.new.err)) same (c.run_stimulus.ensures.refused c.args.file.now c.args.process.now c.deref.result.now begun_then is)
 
 pub returns-in-Ok-process_of_bytes-clause-every_refusal : goal.returns-in-Ok-process_of_bytes-clause-every_refusal
 returns-in-Ok-process_of_bytes-clause-every_refusal g c = λ refusal first fine.
     let given : MayGive (g.S.Shelf.told c.args.shelf.now) (file_load c.args.file.now) c.deref.result.now = rw c.deref.ensures.value (record { kept = c.in-Ok.ensures.bytes; within = c.in-Ok.ensures.within }) in
     let same : (g.S.Shelf.told c.load.new.self) ≡ (g.S.Shelf.told c.args.shelf.now) = λ i n. c.load.ensures.kept n i in
-    let of_file : IsProcessOf c.deref.result.now c.args.process.now (process_of c.in-Ok-process_of_bytes.proc.name c.in-Ok-process_of_bytes.proc.ports.items c.in-Ok-process_of_bytes.proc.regs.items c.in-Ok-process_of_bytes.proc.threads.items) = rw c.as_bytes.ensures.value at c.in-Ok-process_of_bytes.ensures.process in
-    let begun : IsBegun (g.S.Shelf.told c.args.shelf.now) c.args.file.now c.args.process.now c.deref.result.now (process_of c.in-Ok-process_of_bytes.proc.name c.in-Ok-process_of_bytes.proc.ports.items c.in-Ok-process_of_bytes.proc.regs.items c.in-Ok-process_of_bytes.proc.threads.items) = record { given = given; of_file = of_file } in
-    let begun_then = subst (λ told. IsBegun told c.args.file.now c.args.process.now c.deref.result.now (process_of c.in-Ok-process_of_bytes.proc.name c.in-Ok-process_of_bytes.proc.ports.items c.in-Ok-process_of_bytes.proc.regs.items c.in-Ok-process_of_bytes.proc.threads.items)) (sym same) begun in
+    let of_file : IsProcessOf c.deref.result.now c.args.process.now (process_of c.process.result.now.name c.process.result.now.ports.items c.process.result.now.regs.items c.process.result.now.threads.items) = rw c.as_bytes.ensures.value at c.in-Ok-process_of_bytes.ensures.process c.process.result.now (c.process.ensures c.process.result.now) in
+    let begun : IsBegun (g.S.Shelf.told c.args.shelf.now) c.args.file.now c.args.process.now c.deref.result.now (process_of c.process.result.now.name c.process.result.now.ports.items c.process.result.now.regs.items c.process.result.now.threads.items) = record { given = given; of_file = of_file } in
+    let begun_then = subst (λ told. IsBegun told c.args.file.now c.args.process.now c.deref.result.now (process_of c.process.result.now.name c.process.result.now.ports.items c.process.result.now.regs.items c.process.result.now.threads.items)) (sym same) begun in
     let fine_then : HasNoFault (g.S.Shelf.faults c.load.new.self) (g.S.Shelf.faults c.run_stimulus.new.shelf) = subst (λ n. HasNoFault n (g.S.Shelf.faults c.run_stimulus.new.shelf)) (sym c.in-Ok.ensures.fault.ok) fine in
     c.run_stimulus.ensures.every_refusal c.args.file.now c.args.process.now c.deref.result.now begun_then refusal (subst (λ told. IsFirstRefusal (Tells told) (run_form c.args.file.now c.args.process.now c.args.stimulus.now) refusal) (sym same) first) fine_then
 
@@ -66,27 +66,27 @@ pub returns-in-Ok-process_of_bytes-clause-done : goal.returns-in-Ok-process_of_b
 returns-in-Ok-process_of_bytes-clause-done g c = λ is.
     let given : MayGive (g.S.Shelf.told c.args.shelf.now) (file_load c.args.file.now) c.deref.result.now = rw c.deref.ensures.value (record { kept = c.in-Ok.ensures.bytes; within = c.in-Ok.ensures.within }) in
     let same : (g.S.Shelf.told c.load.new.self) ≡ (g.S.Shelf.told c.args.shelf.now) = λ i n. c.load.ensures.kept n i in
-    let of_file : IsProcessOf c.deref.result.now c.args.process.now (process_of c.in-Ok-process_of_bytes.proc.name c.in-Ok-process_of_bytes.proc.ports.items c.in-Ok-process_of_bytes.proc.regs.items c.in-Ok-process_of_bytes.proc.threads.items) = rw c.as_bytes.ensures.value at c.in-Ok-process_of_bytes.ensures.process in
-    let begun : IsBegun (g.S.Shelf.told c.args.shelf.now) c.args.file.now c.args.process.now c.deref.result.now (process_of c.in-Ok-process_of_bytes.proc.name c.in-Ok-process_of_bytes.proc.ports.items c.in-Ok-process_of_bytes.proc.regs.items c.in-Ok-process_of_bytes.proc.threads.items) = record { given = given; of_file = of_file } in
-    let begun_then = subst (λ told. IsBegun told c.args.file.now c.args.process.now c.deref.result.now (process_of c.in-Ok-process_of_bytes.proc.name c.in-Ok-process_of_bytes.proc.ports.items c.in-Ok-process_of_bytes.proc.regs.items c.in-Ok-process_of_bytes.proc.threads.items)) (sym same) begun in
+    let of_file : IsProcessOf c.deref.result.now c.args.process.now (process_of c.process.result.now.name c.process.result.now.ports.items c.process.result.now.regs.items c.process.result.now.threads.items) = rw c.as_bytes.ensures.value at c.in-Ok-process_of_bytes.ensures.process c.process.result.now (c.process.ensures c.process.result.now) in
+    let begun : IsBegun (g.S.Shelf.told c.args.shelf.now) c.args.file.now c.args.process.now c.deref.result.now (process_of c.process.result.now.name c.process.result.now.ports.items c.process.result.now.regs.items c.process.result.now.threads.items) = record { given = given; of_file = of_file } in
+    let begun_then = subst (λ told. IsBegun told c.args.file.now c.args.process.now c.deref.result.now (process_of c.process.result.now.name c.process.result.now.ports.items c.process.result.now.regs.items c.process.result.now.threads.items)) (sym same) begun in
     subst (λ told. IsWritten told (run_form c.args.file.now c.args.process.now c.args.stimulus.now) (g.O.Sink.held c.args.out.now) (g.O.Sink.held c.run_stimulus.new.out)) same (c.run_stimulus.ensures.done c.args.file.now c.args.process.now c.deref.result.now begun_then is)
 
 pub returns-in-Ok-process_of_bytes-clause-breach : goal.returns-in-Ok-process_of_bytes-clause-breach
 returns-in-Ok-process_of_bytes-clause-breach g c = λ is.
     let given : MayGive (g.S.Shelf.told c.args.shelf.now) (file_load c.args.file.now) c.deref.result.now = rw c.deref.ensures.value (record { kept = c.in-Ok.ensures.bytes; within = c.in-Ok.ensures.within }) in
     let same : (g.S.Shelf.told c.load.new.self) ≡ (g.S.Shelf.told c.args.shelf.now) = λ i n. c.load.ensures.kept n i in
-    let of_file : IsProcessOf c.deref.result.now c.args.process.now (process_of c.in-Ok-process_of_bytes.proc.name c.in-Ok-process_of_bytes.proc.ports.items c.in-Ok-process_of_bytes.proc.regs.items c.in-Ok-process_of_bytes.proc.threads.items) = rw c.as_bytes.ensures.value at c.in-Ok-process_of_bytes.ensures.process in
-    let begun : IsBegun (g.S.Shelf.told c.args.shelf.now) c.args.file.now c.args.process.now c.deref.result.now (process_of c.in-Ok-process_of_bytes.proc.name c.in-Ok-process_of_bytes.proc.ports.items c.in-Ok-process_of_bytes.proc.regs.items c.in-Ok-process_of_bytes.proc.threads.items) = record { given = given; of_file = of_file } in
-    let begun_then = subst (λ told. IsBegun told c.args.file.now c.args.process.now c.deref.result.now (process_of c.in-Ok-process_of_bytes.proc.name c.in-Ok-process_of_bytes.proc.ports.items c.in-Ok-process_of_bytes.proc.regs.items c.in-Ok-process_of_bytes.proc.threads.items)) (sym same) begun in
+    let of_file : IsProcessOf c.deref.result.now c.args.process.now (process_of c.process.result.now.name c.process.result.now.ports.items c.process.result.now.regs.items c.process.result.now.threads.items) = rw c.as_bytes.ensures.value at c.in-Ok-process_of_bytes.ensures.process c.process.result.now (c.process.ensures c.process.result.now) in
+    let begun : IsBegun (g.S.Shelf.told c.args.shelf.now) c.args.file.now c.args.process.now c.deref.result.now (process_of c.process.result.now.name c.process.result.now.ports.items c.process.result.now.regs.items c.process.result.now.threads.items) = record { given = given; of_file = of_file } in
+    let begun_then = subst (λ told. IsBegun told c.args.file.now c.args.process.now c.deref.result.now (process_of c.process.result.now.name c.process.result.now.ports.items c.process.result.now.regs.items c.process.result.now.threads.items)) (sym same) begun in
     subst (λ told. IsBreach told (run_form c.args.file.now c.args.process.now c.args.stimulus.now) (g.O.Sink.held c.args.out.now) (g.O.Sink.held c.run_stimulus.new.out) (g.E.Sink.held c.args.err.now) (g.E.Sink.held c.run_stimulus.new.err)) same (c.run_stimulus.ensures.breach c.args.file.now c.args.process.now c.deref.result.now begun_then is)
 
 pub returns-in-Ok-process_of_bytes-clause-every_breach : goal.returns-in-Ok-process_of_bytes-clause-every_breach
 returns-in-Ok-process_of_bytes-clause-every_breach g c = λ text line broken fine out_fine err_fine.
     let given : MayGive (g.S.Shelf.told c.args.shelf.now) (file_load c.args.file.now) c.deref.result.now = rw c.deref.ensures.value (record { kept = c.in-Ok.ensures.bytes; within = c.in-Ok.ensures.within }) in
     let same : (g.S.Shelf.told c.load.new.self) ≡ (g.S.Shelf.told c.args.shelf.now) = λ i n. c.load.ensures.kept n i in
-    let of_file : IsProcessOf c.deref.result.now c.args.process.now (process_of c.in-Ok-process_of_bytes.proc.name c.in-Ok-process_of_bytes.proc.ports.items c.in-Ok-process_of_bytes.proc.regs.items c.in-Ok-process_of_bytes.proc.threads.items) = rw c.as_bytes.ensures.value at c.in-Ok-process_of_bytes.ensures.process in
-    let begun : IsBegun (g.S.Shelf.told c.args.shelf.now) c.args.file.now c.args.process.now c.deref.result.now (process_of c.in-Ok-process_of_bytes.proc.name c.in-Ok-process_of_bytes.proc.ports.items c.in-Ok-process_of_bytes.proc.regs.items c.in-Ok-process_of_bytes.proc.threads.items) = record { given = given; of_file = of_file } in
-    let begun_then = subst (λ told. IsBegun told c.args.file.now c.args.process.now c.deref.result.now (process_of c.in-Ok-process_of_bytes.proc.name c.in-Ok-process_of_bytes.proc.ports.items c.in-Ok-process_of_bytes.proc.regs.items c.in-Ok-process_of_bytes.proc.threads.items)) (sym same) begun in
+    let of_file : IsProcessOf c.deref.result.now c.args.process.now (process_of c.process.result.now.name c.process.result.now.ports.items c.process.result.now.regs.items c.process.result.now.threads.items) = rw c.as_bytes.ensures.value at c.in-Ok-process_of_bytes.ensures.process c.process.result.now (c.process.ensures c.process.result.now) in
+    let begun : IsBegun (g.S.Shelf.told c.args.shelf.now) c.args.file.now c.args.process.now c.deref.result.now (process_of c.process.result.now.name c.process.result.now.ports.items c.process.result.now.regs.items c.process.result.now.threads.items) = record { given = given; of_file = of_file } in
+    let begun_then = subst (λ told. IsBegun told c.args.file.now c.args.process.now c.deref.result.now (process_of c.process.result.now.name c.process.result.now.ports.items c.process.result.now.regs.items c.process.result.now.threads.items)) (sym same) begun in
     let fine_then : HasNoFault (g.S.Shelf.faults c.load.new.self) (g.S.Shelf.faults c.run_stimulus.new.shelf) = subst (λ n. HasNoFault n (g.S.Shelf.faults c.run_stimulus.new.shelf)) (sym c.in-Ok.ensures.fault.ok) fine in
     c.run_stimulus.ensures.every_breach c.args.file.now c.args.process.now c.deref.result.now begun_then text line (subst (λ told. Breaks (Tells told) (run_form c.args.file.now c.args.process.now c.args.stimulus.now) text line) (sym same) broken) fine_then out_fine err_fine
 
@@ -94,9 +94,9 @@ pub returns-in-Ok-process_of_bytes-clause-complete : goal.returns-in-Ok-process_
 returns-in-Ok-process_of_bytes-clause-complete g c = λ loaded ends fine out_fine err_fine.
     let given : MayGive (g.S.Shelf.told c.args.shelf.now) (file_load c.args.file.now) c.deref.result.now = rw c.deref.ensures.value (record { kept = c.in-Ok.ensures.bytes; within = c.in-Ok.ensures.within }) in
     let same : (g.S.Shelf.told c.load.new.self) ≡ (g.S.Shelf.told c.args.shelf.now) = λ i n. c.load.ensures.kept n i in
-    let of_file : IsProcessOf c.deref.result.now c.args.process.now (process_of c.in-Ok-process_of_bytes.proc.name c.in-Ok-process_of_bytes.proc.ports.items c.in-Ok-process_of_bytes.proc.regs.items c.in-Ok-process_of_bytes.proc.threads.items) = rw c.as_bytes.ensures.value at c.in-Ok-process_of_bytes.ensures.process in
-    let begun : IsBegun (g.S.Shelf.told c.args.shelf.now) c.args.file.now c.args.process.now c.deref.result.now (process_of c.in-Ok-process_of_bytes.proc.name c.in-Ok-process_of_bytes.proc.ports.items c.in-Ok-process_of_bytes.proc.regs.items c.in-Ok-process_of_bytes.proc.threads.items) = record { given = given; of_file = of_file } in
-    let begun_then = subst (λ told. IsBegun told c.args.file.now c.args.process.now c.deref.result.now (process_of c.in-Ok-process_of_bytes.proc.name c.in-Ok-process_of_bytes.proc.ports.items c.in-Ok-process_of_bytes.proc.regs.items c.in-Ok-process_of_bytes.proc.threads.items)) (sym same) begun in
+    let of_file : IsProcessOf c.deref.result.now c.args.process.now (process_of c.process.result.now.name c.process.result.now.ports.items c.process.result.now.regs.items c.process.result.now.threads.items) = rw c.as_bytes.ensures.value at c.in-Ok-process_of_bytes.ensures.process c.process.result.now (c.process.ensures c.process.result.now) in
+    let begun : IsBegun (g.S.Shelf.told c.args.shelf.now) c.args.file.now c.args.process.now c.deref.result.now (process_of c.process.result.now.name c.process.result.now.ports.items c.process.result.now.regs.items c.process.result.now.threads.items) = record { given = given; of_file = of_file } in
+    let begun_then = subst (λ told. IsBegun told c.args.file.now c.args.process.now c.deref.result.now (process_of c.process.result.now.name c.process.result.now.ports.items c.process.result.now.regs.items c.process.result.now.threads.items)) (sym same) begun in
     let fine_then : HasNoFault (g.S.Shelf.faults c.load.new.self) (g.S.Shelf.faults c.run_stimulus.new.shelf) = subst (λ n. HasNoFault n (g.S.Shelf.faults c.run_stimulus.new.shelf)) (sym c.in-Ok.ensures.fault.ok) fine in
     c.run_stimulus.ensures.complete c.args.file.now c.args.process.now c.deref.result.now begun_then loaded (subst (λ told. Ends (Tells told) (run_form c.args.file.now c.args.process.now c.args.stimulus.now) loaded) (sym same) ends) fine_then out_fine err_fine
 
@@ -104,14 +104,14 @@ pub returns-in-Ok-process_of_bytes-clause-write_fault : goal.returns-in-Ok-proce
 returns-in-Ok-process_of_bytes-clause-write_fault g c = λ failed.
     let given : MayGive (g.S.Shelf.told c.args.shelf.now) (file_load c.args.file.now) c.deref.result.now = rw c.deref.ensures.value (record { kept = c.in-Ok.ensures.bytes; within = c.in-Ok.ensures.within }) in
     let same : (g.S.Shelf.told c.load.new.self) ≡ (g.S.Shelf.told c.args.shelf.now) = λ i n. c.load.ensures.kept n i in
-    let of_file : IsProcessOf c.deref.result.now c.args.process.now (process_of c.in-Ok-process_of_bytes.proc.name c.in-Ok-process_of_bytes.proc.ports.items c.in-Ok-process_of_bytes.proc.regs.items c.in-Ok-process_of_bytes.proc.threads.items) = rw c.as_bytes.ensures.value at c.in-Ok-process_of_bytes.ensures.process in
-    let begun : IsBegun (g.S.Shelf.told c.args.shelf.now) c.args.file.now c.args.process.now c.deref.result.now (process_of c.in-Ok-process_of_bytes.proc.name c.in-Ok-process_of_bytes.proc.ports.items c.in-Ok-process_of_bytes.proc.regs.items c.in-Ok-process_of_bytes.proc.threads.items) = record { given = given; of_file = of_file } in
-    let begun_then = subst (λ told. IsBegun told c.args.file.now c.args.process.now c.deref.result.now (process_of c.in-Ok-process_of_bytes.proc.name c.in-Ok-process_of_bytes.proc.ports.items c.in-Ok-process_of_bytes.proc.regs.items c.in-Ok-process_of_bytes.proc.threads.items)) (sym same) begun in
-    elim (c.run_stimulus.ensures.write_fault c.args.file.now c.args.process.now c.deref.result.now begun_then failed) [
-      | inl (cut, quiet) ↦ inl (subst (λ told. OutFailed told (run_form c.args.file.now c.args.process.now c.args.stimulus.now) (g.O.Sink.held c.args.out.now) (g.O.Sink.held c.run_stimulus.new.out) (g.O.Sink.faults c.args.out.now) (g.O.Sink.faults c.run_stimulus.new.out)) same cut, quiet)
-      | inr (inl (untouched, cut)) ↦ inr (inl (untouched, subst (λ told. LineFailed (IsLine told (Some (run_form c.args.file.now c.args.process.now c.args.stimulus.now))) (g.E.Sink.held c.args.err.now) (g.E.Sink.held c.run_stimulus.new.err) (g.E.Sink.faults c.args.err.now) (g.E.Sink.faults c.run_stimulus.new.err)) same cut))
-      | inr (inr cut) ↦ inr (inr (subst (λ told. BreachFailed told (run_form c.args.file.now c.args.process.now c.args.stimulus.now) (g.O.Sink.held c.args.out.now) (g.O.Sink.held c.run_stimulus.new.out) (g.O.Sink.faults c.args.out.now) (g.O.Sink.faults c.run_stimulus.new.out) (g.E.Sink.held c.args.err.now) (g.E.Sink.held c.run_stimulus.new.err) (g.E.Sink.faults c.args.err.now) (g.E.Sink.faults c.run_stimulus.new.err)) same cut))
-    ]
+    let of_file : IsProcessOf c.deref.result.now c.args.process.now (process_of c.process.result.now.name c.process.result.now.ports.items c.process.result.now.regs.items c.process.result.now.threads.items) = rw c.as_bytes.ensures.value at c.in-Ok-process_of_bytes.ensures.process c.process.result.now (c.process.ensures c.process.result.now) in
+    let begun : IsBegun (g.S.Shelf.told c.args.shelf.now) c.args.file.now c.args.process.now c.deref.result.now (process_of c.process.result.now.name c.process.result.now.ports.items c.process.result.now.regs.items c.process.result.now.threads.items) = record { given = given; of_file = of_file } in
+    let begun_then = subst (λ told. IsBegun told c.args.file.now c.args.process.now c.deref.result.now (process_of c.process.result.now.name c.process.result.now.ports.items c.process.result.now.regs.items c.process.result.now.threads.items)) (sym same) begun in
+    subst
+    (λ told. (OutFailed told (run_form c.args.file.now c.args.process.now c.args.stimulus.now) (g.O.Sink.held c.args.out.now) (g.O.Sink.held c.run_stimulus.new.out) (g.O.Sink.faults c.args.out.now) (g.O.Sink.faults c.run_stimulus.new.out) × IsUntouched (g.E.Sink.held c.args.err.now) (g.E.Sink.held c.run_stimulus.new.err) (g.E.Sink.faults c.args.err.now) (g.E.Sink.faults c.run_stimulus.new.err))
+    ⊎ ((IsUntouched (g.O.Sink.held c.args.out.now) (g.O.Sink.held c.run_stimulus.new.out) (g.O.Sink.faults c.args.out.now) (g.O.Sink.faults c.run_stimulus.new.out) × LineFailed (IsLine told (Some (run_form c.args.file.now c.args.process.now c.args.stimulus.now))) (g.E.Sink.held c.args.err.now) (g.E.Sink.held c.run_stimulus.new.err) (g.E.Sink.faults c.args.err.now) (g.E.Sink.faults c.run_stimulus.new.err))
+    ⊎ BreachFailed told (run_form c.args.file.now c.args.process.now c.args.stimulus.now) (g.O.Sink.held c.args.out.now) (g.O.Sink.held c.run_stimulus.new.out) (g.O.Sink.faults c.args.out.now) (g.O.Sink.faults c.run_stimulus.new.out) (g.E.Sink.held c.args.err.now) (g.E.Sink.held c.run_stimulus.new.err) (g.E.Sink.faults c.args.err.now) (g.E.Sink.faults c.run_stimulus.new.err)))
+    same (c.run_stimulus.ensures.write_fault c.args.file.now c.args.process.now c.deref.result.now begun_then failed)
 
 -- The file is refused, or memory was.
 
