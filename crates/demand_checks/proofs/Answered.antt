@@ -18,11 +18,11 @@ use Rattle.core_term.proofs.graph_tables.OfText.{of_text, end_real}
 use Rattle.core_term.proofs.graph_tables.Told.{tables, order_told, last_told}
 use Rattle.event_points.specs.Endings.{graph_of}
 use Rattle.event_points.proofs.Endings.{graph_is}
-use Rattle.demand_checks.specs.declared.deed.Deed.{Deed}
-use Rattle.demand_checks.specs.declared.deed.Deed.TheVariants as deed
+use Rattle.act_deeds.specs.declared.deed.Deed.{Deed}
+use Rattle.act_deeds.specs.declared.deed.Deed.TheVariants as deed
 use Rattle.demand_checks.specs.Answers.{Answers, Decides, Tell, shows}
 use Rattle.demand_checks.specs.Deeds.{AreDeeds, deed_at}
-use Rattle.demand_checks.proofs.Deeds.{send_deed, deed_send}
+use Rattle.act_deeds.proofs.Deeds.{send_deed, deed_send}
 use Rattle.demand_checks.proofs.Inside.{point_small}
 use Rattle.demand_checks.proofs.Pointed.{decided_by}
 
@@ -69,6 +69,7 @@ module _ (p : Process) (body : Term) (numbered : Numbered [] 0 body) (deeds : Li
   last_by (deed.Sends m) s d b = one_of (admitted (t.end_lag s m ((graph_of p body).node b)) d)
   last_by (deed.Sets r) s d b = false
   last_by (deed.Receives m) s d b = false
+  last_by deed.Decides s d b = false
   last_by deed.Other s d b = false
 
   answers : Answers
@@ -81,6 +82,7 @@ module _ (p : Process) (body : Term) (numbered : Numbered [] 0 body) (deeds : Li
   no_deed (deed.Sends m) s d b none = absurd (none m refl)
   no_deed (deed.Sets r) s d b none = refl
   no_deed (deed.Receives m) s d b none = refl
+  no_deed deed.Decides s d b none = refl
   no_deed deed.Other s d b none = refl
 
   tell : Tell p body answers

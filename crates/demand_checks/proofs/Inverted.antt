@@ -11,12 +11,12 @@ use Rattle.core_term.specs.Process.{Cycles, Until, Process, life_of}
 use Rattle.core_term.specs.Order.{Point}
 use Rattle.core_term.specs.Sources.{WireOf, RegOf, ChoiceOf}
 use Rattle.core_term.specs.Rules.{Claim, Order, Either, Both, Demands, RestsOn, begin_of, end_of, next_begin_of, next_end_of, use_by, made, sets, receives, sends, sends_next, wire_within, wire_until, set_elsewhere, set_here, choice}
-use Rattle.demand_checks.specs.declared.deed.Deed.{Deed}
+use Rattle.act_deeds.specs.declared.deed.Deed.{Deed}
 use Rattle.demand_checks.specs.Deeds.{AreDeeds, deed_in, used, used_with}
 use Rattle.demand_checks.specs.Thread.{IsSetElsewhere}
 use Rattle.demand_checks.specs.Reads.{IsRead}
 use Rattle.demand_checks.specs.Rests.{IsUse}
-use Rattle.demand_checks.proofs.Deeds.{deed_stands}
+use Rattle.act_deeds.proofs.Deeds.{deed_stands}
 
 used_act : (a : Act) (d : ℤ) (b : Point) → used_with (deed_in a) (site a) d b ≡ use_by a d b
 used_act (Send q m e) d b = refl

@@ -1,7 +1,5 @@
 pub mod Listed
 pub mod Numbers
-pub mod DeedsRead
-pub mod Deeds
 pub mod ReadsRead
 pub mod RestsRead
 pub mod Inside

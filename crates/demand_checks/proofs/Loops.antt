@@ -10,7 +10,7 @@ use Rattle.demand_checks.specs.declared.place.Pair.{Pair}
 use Rattle.demand_checks.specs.Answers.{Answers, all_shown}
 use Rattle.demand_checks.specs.Unshown.{unshown}
 use Rattle.demand_checks.specs.Sites.{is_number, places_from, row_or}
-use Rattle.demand_checks.proofs.Listed.{end_nothing}
+use Rattle.act_deeds.proofs.Sitting.{end_nothing}
 
 pub next_drop : {A : Type 0} (items : List A) (i later : ℕ) (item : A) → later ≡ suc i → i < length items → item ≡ get_or items i item → drop i items ≡ item ∷ drop later items
 next_drop items i later item is small at = drop-cons items i item small ∙ (ap (λ a. a ∷ drop (suc i) items) (sym at) ∙ ap (λ n. item ∷ drop n items) (sym is))

@@ -33,10 +33,10 @@ use Rattle.lifetimes.specs.declared.table.EndTable.{EndTable}
 use Rattle.lifetimes.specs.Lasts.{table_of}
 use Rattle.lifetimes.specs.Tables.{IsTableOf, event_count}
 use Rattle.lifetimes.specs.Ends.{IsEndLagOf}
-use Rattle.demand_checks.specs.declared.deed.Deed.TheVariants as deed
+use Rattle.act_deeds.specs.declared.deed.Deed.TheVariants as deed
 use Rattle.demand_checks.specs.Deeds.{AreDeeds, deed_at}
 use Rattle.demand_checks.proofs.Numbers.{site_below}
-use Rattle.demand_checks.proofs.Deeds.{send_deed}
+use Rattle.act_deeds.proofs.Deeds.{send_deed}
 use Rattle.demand_checks.specs.declared.place.Place.{Place}
 use Rattle.demand_checks.specs.declared.judge.Judge.{Judge}
 use Rattle.demand_checks.specs.Answers.{Answers, Decides}

@@ -4,7 +4,7 @@ use Rattle.core_term.specs.declared.term.CoreTerm.{CoreTerm, One', Then', Both'}
 use Rattle.core_term.specs.declared.term.CoreExpr as expr
 use Rattle.core_term.specs.declared.term.CoreExpr.{CoreExpr}
 use Rattle.core_term.specs.declared.term.CoreKind as kind
-use Rattle.core_term.specs.declared.term.CoreKind.{CoreKind, Held-CoreKind-If-2, None', Some'}
+use Rattle.core_term.specs.declared.term.CoreKind.{CoreKind, None', Some'}
 use Rattle.core_term.specs.Lists.{Has}
 use Rattle.core_term.specs.Term.{Expr, Lit, Var, Reg, Not, Bin, Slice, Choose, Term, One, Then, Both, Act, Cycle, Set, Send, Recv, If, When, Block, Wait, Pure, Nothing, site, head}
 use Rattle.core_term.specs.Numbering.{Mentions}
@@ -14,7 +14,8 @@ use Rattle.core_term.specs.Widths.{Widths}
 use Rattle.core_term.specs.View.{term_of, act_of, expr_of, after_act}
 use Rattle.demand_checks.specs.declared.place.Pair.{Pair}
 use Rattle.demand_checks.specs.Reads.{AreReads, pair, expr_reads, kind_reads, reads_of, reads_in}
-use Rattle.demand_checks.proofs.Listed.{has_left, has_right, has_either, both, end_nothing}
+use Rattle.act_deeds.proofs.Sitting.{both, end_nothing}
+use Rattle.demand_checks.proofs.Listed.{has_left, has_right, has_either}
 
 abbrev in_expr : ℕ → Expr → List Pair
 in_expr p (Lit w n) = []

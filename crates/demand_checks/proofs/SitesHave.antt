@@ -4,8 +4,8 @@ use Rattle.std.proofs.lemmas.Bool.{eqb-true}
 use Rattle.std.proofs.lemmas.Option.{slice_get-map}
 use Rattle.std.specs.Option.{option_map}
 use Rattle.core_term.specs.Lists.{Has}
-use Rattle.demand_checks.specs.declared.deed.Deed.{Deed}
-use Rattle.demand_checks.specs.declared.deed.Deed.TheVariants.{Sets, Sends, Receives, Other}
+use Rattle.act_deeds.specs.declared.deed.Deed.{Deed}
+use Rattle.act_deeds.specs.declared.deed.Deed.TheVariants.{Sets, Sends, Receives, Decides, Other}
 use Rattle.demand_checks.specs.Deeds.{deed_at, deed_or}
 use Rattle.demand_checks.specs.Sites.{is_number, places_from, register_of, port_of, sites_setting, sites_on}
 
@@ -52,6 +52,7 @@ register_deed r None is = absurd cc
 register_deed r (Some (Sets q)) is = cc
 register_deed r (Some (Sends m)) is = absurd cc
 register_deed r (Some (Receives m)) is = absurd cc
+register_deed r (Some Decides) is = absurd cc
 register_deed r (Some Other) is = absurd cc
 
 deed_register : (r : ℕ) (one : Option Deed) → deed_or one ≡ Sets r → option_map register_of one ≡ Some (Some r)
@@ -78,6 +79,7 @@ port_deed m None is = absurd cc
 port_deed m (Some (Sends n)) is = inl cc
 port_deed m (Some (Receives n)) is = inr cc
 port_deed m (Some (Sets r)) is = absurd cc
+port_deed m (Some Decides) is = absurd cc
 port_deed m (Some Other) is = absurd cc
 
 deed_port : (m : ℕ) (one : Option Deed) → IsOn (deed_or one) m → option_map port_of one ≡ Some (Some m)

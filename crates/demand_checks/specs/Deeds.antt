@@ -1,65 +1,18 @@
--- What each act of a body does to a register or a port, by its site.
-use Rattle.std.specs.Prelude.{ℕ, ◌≡◌, List, [], ◌∷◌, ◌++◌, length, slice_get, Option, Some, None, ℤ}
-use Rattle.core_term.specs.declared.term.CoreTerm.{CoreTerm, One', Then', Both'}
-use Rattle.core_term.specs.declared.term.CoreKind.{CoreKind, Set, Send, Recv, If', Block', Held-CoreKind-If-2, None', Some'}
-use Rattle.core_term.specs.Term as term
-use Rattle.core_term.specs.Term.{Term, Act, site, head}
-use Rattle.core_term.specs.Numbering.{size}
-use Rattle.core_term.specs.Stands.{Stands}
+-- How long the act of a site uses what it uses, told from what it does.
+use Rattle.std.specs.Prelude.{ℕ, ℤ, List}
 use Rattle.core_term.specs.Order.{Point}
 use Rattle.core_term.specs.Rules.{Claim, Order, Last, begin_of}
-use Rattle.demand_checks.specs.declared.deed.Deed.{Deed}
-use Rattle.demand_checks.specs.declared.deed.Deed.TheVariants.{Sets, Sends, Receives, Other}
-
-abbrev pub deed_in : Act → Deed
-deed_in (term.Set p r e) = Sets r
-deed_in (term.Send p m e) = Sends m
-deed_in (term.Recv p m) = Receives m
-deed_in a = Other
-
--- of each act of a body, at its site
-pub record AreDeeds (body : Term) (deeds : List Deed) : Type 0 where
-  pub count : length deeds ≡ size body
-  pub at : (scope : List Act) (u : Term) → Stands [] body scope u
-      → slice_get deeds (site (head u)) ≡ Some (deed_in (head u))
-
-abbrev pub deed_or : Option Deed → Deed
-deed_or None = Other
-deed_or (Some deed) = deed
-
--- of the act of a site, and of a number that is no site
-abbrev pub deed_at : List Deed → ℕ → Deed
-deed_at deeds site = deed_or (slice_get deeds site)
+use Rattle.act_deeds.specs.declared.deed.Deed.{Deed}
+use Rattle.act_deeds.specs.declared.deed.Deed.TheVariants.{Sets, Sends, Receives, Decides, Other}
+pub use Rattle.act_deeds.specs.Deeds.{AreDeeds, deed_in, deed_or, deed_at}
 
 -- that what the act of a site uses, + d, is no later than b: a `send` uses its value to the end of the life
 abbrev pub used_with : Deed → ℕ → ℤ → Point → Claim
 used_with (Sends m) user d b = Last user m d b
 used_with (Sets r) user d b = Order (begin_of user) d b
 used_with (Receives m) user d b = Order (begin_of user) d b
+used_with Decides user d b = Order (begin_of user) d b
 used_with Other user d b = Order (begin_of user) d b
 
 abbrev pub used : List Deed → ℕ → ℤ → Point → Claim
 used deeds user d b = used_with (deed_at deeds user) user d b
-
--- As the code reads them off a body, each act before the acts inside it.
-
-abbrev pub deed_of : CoreKind → Deed
-deed_of (Set r e) = Sets r
-deed_of (Send m e) = Sends m
-deed_of (Recv m) = Receives m
-deed_of k = Other
-
-abbrev mutual
-  pub deeds_of : CoreTerm → List Deed
-  deeds_of (One' s p k) = deed_of k ∷ deeds_in k
-  deeds_of (Then' s p k q t) = (deed_of k ∷ deeds_in k) ++ deeds_of t
-  deeds_of (Both' s p k q t) = (deed_of k ∷ deeds_in k) ++ deeds_of t
-
-  pub deeds_in : CoreKind → List Deed
-  deeds_in (If' e p t u w) = deeds_of t ++ deeds_of_else u
-  deeds_in (Block' p t) = deeds_of t
-  deeds_in k = []
-
-  pub deeds_of_else : Held-CoreKind-If-2 → List Deed
-  deeds_of_else None' = []
-  deeds_of_else (Some' p t) = deeds_of t

@@ -1,7 +1,7 @@
 -- The sites of a list that have a number: of the deeds of a body, those that set a register or are on a port.
 use Rattle.std.specs.Prelude.{ℕ, suc, ◌==◌, if◌then◌else◌, Bool, false, List, [], ◌∷◌, Option, Some, None, map, slice_get}
-use Rattle.demand_checks.specs.declared.deed.Deed.{Deed}
-use Rattle.demand_checks.specs.declared.deed.Deed.TheVariants.{Sets, Sends, Receives, Other}
+use Rattle.act_deeds.specs.declared.deed.Deed.{Deed}
+use Rattle.act_deeds.specs.declared.deed.Deed.TheVariants.{Sets, Sends, Receives, Decides, Other}
 use Rattle.demand_checks.specs.declared.sites.Sites.{Sites}
 
 -- the register that is set, and the port that is sent on or received from
@@ -9,12 +9,14 @@ abbrev pub register_of : Deed → Option ℕ
 register_of (Sets r) = Some r
 register_of (Sends m) = None
 register_of (Receives m) = None
+register_of Decides = None
 register_of Other = None
 
 abbrev pub port_of : Deed → Option ℕ
 port_of (Sets r) = None
 port_of (Sends m) = Some m
 port_of (Receives m) = Some m
+port_of Decides = None
 port_of Other = None
 
 abbrev pub is_number : ℕ → Option ℕ → Bool

@@ -2,7 +2,6 @@
 //! judgements over its begins and ends.
 #![tactic(auto)]
 
-mod deed;
 mod judge;
 pub mod laws;
 mod listing;
@@ -11,11 +10,11 @@ mod reads;
 mod rests;
 mod sites;
 
+pub use act_deeds::{Deed, deeds_of};
 pub use core_term::{
     CoreAct, CoreExpr, CoreKind, CoreLife, CoreProc, CoreTerm, CoreThread, Rule, SourceAtom,
     Violation,
 };
-pub use deed::{Deed, deeds_of};
 pub use elaborator::Elab;
 pub use event_order::{EvId, Lag, Order};
 pub use judge::{Judge, admits};

@@ -20,11 +20,11 @@ use Rattle.lifetimes.specs.declared.lasts.Lasts.{Lasts}
 use Rattle.lifetimes.specs.declared.life.End as life
 use Rattle.lifetimes.specs.Ends.{endings_of}
 use Rattle.lifetimes.specs.Lasts.{table_of, HasTableOf}
-use Rattle.demand_checks.specs.declared.deed.Deed.{Deed}
-use Rattle.demand_checks.specs.declared.deed.Deed.TheVariants as deed
+use Rattle.act_deeds.specs.declared.deed.Deed.{Deed}
+use Rattle.act_deeds.specs.declared.deed.Deed.TheVariants as deed
 use Rattle.demand_checks.specs.Deeds.{AreDeeds, deed_at}
 use Rattle.demand_checks.specs.Thread.{AreLastsOf}
-use Rattle.demand_checks.proofs.Deeds.{send_deed}
+use Rattle.act_deeds.proofs.Deeds.{send_deed}
 use Rattle.demand_checks.proofs.Numbers.{site_below}
 use Rattle.demand_checks.proofs.Pointed.{pointed}
 use Rattle.life_tables.specs.declared.lasts.Setting.{Setting}

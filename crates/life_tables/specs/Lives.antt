@@ -14,8 +14,8 @@ use Rattle.event_points.specs.Endings.{endings}
 use Rattle.elaborator.specs.Turns.{IsTwice}
 use Rattle.lifetimes.specs.declared.lasts.Lasts.{Lasts}
 use Rattle.lifetimes.specs.Lasts.{table_of, HasTableOf}
-use Rattle.demand_checks.specs.declared.deed.Deed.{Deed}
-use Rattle.demand_checks.specs.declared.deed.Deed.TheVariants.{Sends}
+use Rattle.act_deeds.specs.declared.deed.Deed.{Deed}
+use Rattle.act_deeds.specs.declared.deed.Deed.TheVariants.{Sends}
 use Rattle.demand_checks.specs.Deeds.{deed_at}
 use Rattle.life_tables.specs.declared.lasts.Setting.{Setting}
 

@@ -11,7 +11,7 @@ use Rattle.core_term.specs.Process.{Process}
 use Rattle.core_term.specs.Sources.{ChoiceOf}
 use Rattle.core_term.specs.Atoms.{source_of, site_of}
 use Rattle.core_term.specs.Rules.{Claim, Demands, use_by, next_begin_of, choice}
-use Rattle.demand_checks.specs.declared.deed.Deed.{Deed}
+use Rattle.act_deeds.specs.declared.deed.Deed.{Deed}
 use Rattle.demand_checks.specs.declared.rests.Rest.{Rest}
 use Rattle.demand_checks.specs.Answers.{Answers, Tell}
 use Rattle.demand_checks.specs.Deeds.{AreDeeds, used}

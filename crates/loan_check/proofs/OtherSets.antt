@@ -10,11 +10,11 @@ use Rattle.core_term.specs.Process.{Thread, IsThread}
 use Rattle.core_term.specs.View.{term_of}
 use Rattle.core_term.specs.ProcessView.{thread_of}
 use Rattle.core_term.specs.AcceptedFile.{process_in}
-use Rattle.demand_checks.specs.declared.deed.Deed.{Deed}
-use Rattle.demand_checks.specs.declared.deed.Deed.TheVariants.{Sets, Sends, Receives, Other}
+use Rattle.act_deeds.specs.declared.deed.Deed.{Deed}
+use Rattle.act_deeds.specs.declared.deed.Deed.TheVariants.{Sets, Sends, Receives, Decides, Other}
 use Rattle.demand_checks.specs.Deeds.{AreDeeds, deed_at, deed_or}
 use Rattle.demand_checks.specs.Thread.{IsSetElsewhere}
-use Rattle.demand_checks.proofs.Deeds.{set_deed, deed_set}
+use Rattle.act_deeds.proofs.Deeds.{set_deed, deed_set}
 use Rattle.demand_checks.proofs.Listed.{has_left, has_right, has_either, place_in}
 use Rattle.demand_checks.proofs.Pointed.{widths_in}
 use Rattle.loan_check.specs.Elsewhere.{AreElsewhere, AreElsewhereTo, is_among, with_register, with_set, with_sets}
@@ -62,12 +62,14 @@ with_deed : (deed : Deed) (register : ℕ) (registers : List ℕ) → Has (with_
 with_deed (Sets one) register registers has = elim (with_one one register registers has) [ inl k ↦ inl k | inr k ↦ inr (ap Sets (sym k)) ]
 with_deed (Sends m) register registers has = inl has
 with_deed (Receives m) register registers has = inl has
+with_deed Decides register registers has = inl has
 with_deed Other register registers has = inl has
 
 deed_kept : (deed : Deed) (register : ℕ) (registers : List ℕ) → Has registers register → Has (with_set deed registers) register
 deed_kept (Sets one) register registers has = old_kept one register registers has
 deed_kept (Sends m) register registers has = has
 deed_kept (Receives m) register registers has = has
+deed_kept Decides register registers has = has
 deed_kept Other register registers has = has
 
 with_all : (deeds : List Deed) (register : ℕ) (registers : List ℕ) → Has (with_sets deeds registers) register → Has registers register ⊎ Has deeds (Sets register)

@@ -13,7 +13,7 @@ use Rattle.core_term.specs.Order.{Point}
 use Rattle.core_term.specs.Sources.{RegOf}
 use Rattle.core_term.specs.Atoms.{source_of, site_of}
 use Rattle.core_term.specs.Rules.{Claim, Either, Both, Demands, use_by, begin_of, end_of, next_begin_of, set_elsewhere, set_here}
-use Rattle.demand_checks.specs.declared.deed.Deed.{Deed}
+use Rattle.act_deeds.specs.declared.deed.Deed.{Deed}
 use Rattle.demand_checks.specs.declared.rests.Rest.{Rest}
 use Rattle.demand_checks.specs.Answers.{Answers, Tell, all_shown, shows}
 use Rattle.demand_checks.specs.Deeds.{AreDeeds, used}
@@ -21,7 +21,7 @@ use Rattle.demand_checks.specs.Found.{AreFound}
 use Rattle.demand_checks.specs.Rests.{AreRests, IsUse, pair_of}
 use Rattle.demand_checks.specs.Sites.{sites_setting}
 use Rattle.demand_checks.specs.Unshown.{unshown}
-use Rattle.demand_checks.proofs.Deeds.{set_deed, deed_set}
+use Rattle.act_deeds.proofs.Deeds.{set_deed, deed_set}
 use Rattle.demand_checks.proofs.Filtered.{found}
 use Rattle.demand_checks.proofs.Inverted.{used_is, read_demand, set_claim}
 use Rattle.demand_checks.proofs.Listed.{has_left, has_right, has_either, mapped, in_map}

@@ -4,8 +4,8 @@ use Rattle.core_term.specs.declared.process.CoreProc.{CoreProc}
 use Rattle.core_term.specs.Lists.{Has}
 use Rattle.core_term.specs.AcceptedFile.{process_in}
 use Rattle.demand_checks.specs.Thread.{IsSetElsewhere}
-use Rattle.demand_checks.specs.declared.deed.Deed.{Deed}
-use Rattle.demand_checks.specs.declared.deed.Deed.TheVariants.{Sets, Sends, Receives, Other}
+use Rattle.act_deeds.specs.declared.deed.Deed.{Deed}
+use Rattle.act_deeds.specs.declared.deed.Deed.TheVariants.{Sets, Sends, Receives, Decides, Other}
 
 -- these are such registers, and all that threads of numbers below one set
 pub record AreElsewhereTo (high : ℕ) (proc : CoreProc) (j : ℕ) (registers : List ℕ) : Type 0 where
@@ -33,6 +33,7 @@ abbrev pub with_set : Deed → List ℕ → List ℕ
 with_set (Sets register) registers = with_register register registers
 with_set (Sends port) registers = registers
 with_set (Receives port) registers = registers
+with_set Decides registers = registers
 with_set Other registers = registers
 
 abbrev pub with_sets : List Deed → List ℕ → List ℕ

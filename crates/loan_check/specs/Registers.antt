@@ -4,7 +4,7 @@ use Rattle.std.specs.Prelude.{ℕ, ◌≡◌, pos, Bool, true, false, List, [], 
 use Rattle.core_term.specs.declared.term.SourceAtom.{SourceAtom}
 use Rattle.core_term.specs.declared.term.SourceAtom.TheVariants.{Wire, Reg, Choice}
 use Rattle.core_term.specs.Rules.{Claim, Order, Either, Both, begin_of, end_of, next_begin_of}
-use Rattle.demand_checks.specs.declared.deed.Deed.{Deed}
+use Rattle.act_deeds.specs.declared.deed.Deed.{Deed}
 use Rattle.demand_checks.specs.declared.judge.Judge.{Judge}
 use Rattle.demand_checks.specs.declared.place.Pair.{Pair}
 use Rattle.demand_checks.specs.declared.rests.Rest.{Rest}

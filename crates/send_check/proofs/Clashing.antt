@@ -7,13 +7,13 @@ use Rattle.core_term.specs.Term.{Term}
 use Rattle.core_term.specs.Numbering.{Numbered}
 use Rattle.core_term.specs.Process.{Process}
 use Rattle.core_term.specs.Rules.{Claim, Holds, Demands, sets, receives, sends, sends_next, next_begin_of}
-use Rattle.demand_checks.specs.declared.deed.Deed.{Deed}
-use Rattle.demand_checks.specs.declared.deed.Deed.TheVariants.{Sets, Sends, Receives, Other}
+use Rattle.act_deeds.specs.declared.deed.Deed.{Deed}
+use Rattle.act_deeds.specs.declared.deed.Deed.TheVariants as deed
 use Rattle.demand_checks.specs.Answers.{Answers, Tell, Decides, shows}
 use Rattle.demand_checks.specs.Deeds.{AreDeeds, deed_at}
 use Rattle.demand_checks.specs.Found.{Fails}
 use Rattle.demand_checks.proofs.Answered.{demand_shown}
-use Rattle.demand_checks.proofs.Deeds.{set_deed, receive_deed, send_deed, deed_set, deed_receive, deed_send}
+use Rattle.act_deeds.proofs.Deeds.{set_deed, receive_deed, send_deed, deed_set, deed_receive, deed_send}
 use Rattle.send_check.specs.Clashes.{same_register, same_source, same_target, one_ends, one_is_over, clash}
 use Rattle.send_check.specs.Settled.{IsOwn}
 use Rattle.send_check.proofs.Truth.{and_first, and_second, and_fails, or_first, or_second, or_either, not_true, not_false, less_of, of_less}
@@ -27,34 +27,40 @@ itself a = grind (arith, nat_tests)
 
 -- two acts that do the same
 abbrev Alike : (ℕ → Deed) → Deed → Deed → Type 0
-Alike deed one other = (n : ℕ) × (one ≡ deed n) × (other ≡ deed n)
+Alike does one other = (n : ℕ) × (one ≡ does n) × (other ≡ does n)
 
-registers : (one other : Deed) → same_register one other ≡ true → Alike Sets one other
-registers (Sets a) (Sets b) is = (a, refl, ap Sets (sym (same_number a b is)))
-registers (Sets a) (Sends b) is = absurd cc
-registers (Sets a) (Receives b) is = absurd cc
-registers (Sets a) Other is = absurd cc
-registers (Sends a) second is = absurd cc
-registers (Receives a) second is = absurd cc
-registers Other second is = absurd cc
+registers : (one other : Deed) → same_register one other ≡ true → Alike deed.Sets one other
+registers (deed.Sets a) (deed.Sets b) is = (a, refl, ap deed.Sets (sym (same_number a b is)))
+registers (deed.Sets a) (deed.Sends b) is = absurd cc
+registers (deed.Sets a) (deed.Receives b) is = absurd cc
+registers (deed.Sets a) deed.Decides is = absurd cc
+registers (deed.Sets a) deed.Other is = absurd cc
+registers (deed.Sends a) second is = absurd cc
+registers (deed.Receives a) second is = absurd cc
+registers deed.Decides second is = absurd cc
+registers deed.Other second is = absurd cc
 
-sources : (one other : Deed) → same_source one other ≡ true → Alike Receives one other
-sources (Receives a) (Receives b) is = (a, refl, ap Receives (sym (same_number a b is)))
-sources (Receives a) (Sends b) is = absurd cc
-sources (Receives a) (Sets b) is = absurd cc
-sources (Receives a) Other is = absurd cc
-sources (Sends a) second is = absurd cc
-sources (Sets a) second is = absurd cc
-sources Other second is = absurd cc
+sources : (one other : Deed) → same_source one other ≡ true → Alike deed.Receives one other
+sources (deed.Receives a) (deed.Receives b) is = (a, refl, ap deed.Receives (sym (same_number a b is)))
+sources (deed.Receives a) (deed.Sends b) is = absurd cc
+sources (deed.Receives a) (deed.Sets b) is = absurd cc
+sources (deed.Receives a) deed.Decides is = absurd cc
+sources (deed.Receives a) deed.Other is = absurd cc
+sources (deed.Sends a) second is = absurd cc
+sources (deed.Sets a) second is = absurd cc
+sources deed.Decides second is = absurd cc
+sources deed.Other second is = absurd cc
 
-targets : (one other : Deed) → same_target one other ≡ true → Alike Sends one other
-targets (Sends a) (Sends b) is = (a, refl, ap Sends (sym (same_number a b is)))
-targets (Sends a) (Sets b) is = absurd cc
-targets (Sends a) (Receives b) is = absurd cc
-targets (Sends a) Other is = absurd cc
-targets (Sets a) second is = absurd cc
-targets (Receives a) second is = absurd cc
-targets Other second is = absurd cc
+targets : (one other : Deed) → same_target one other ≡ true → Alike deed.Sends one other
+targets (deed.Sends a) (deed.Sends b) is = (a, refl, ap deed.Sends (sym (same_number a b is)))
+targets (deed.Sends a) (deed.Sets b) is = absurd cc
+targets (deed.Sends a) (deed.Receives b) is = absurd cc
+targets (deed.Sends a) deed.Decides is = absurd cc
+targets (deed.Sends a) deed.Other is = absurd cc
+targets (deed.Sets a) second is = absurd cc
+targets (deed.Receives a) second is = absurd cc
+targets deed.Decides second is = absurd cc
+targets deed.Other second is = absurd cc
 
 module _ (p : Process) (j : ℕ) (body : Term) (deeds : List Deed) (are : AreDeeds body deeds) (numbered : Numbered [] 0 body) (answers : Answers) (tell : Tell p body answers) where
   holds : (rule : Rule) (q r : ℕ) (claim : Claim) → Demands p j body rule q r claim → shows answers claim ≡ true → Holds p body claim

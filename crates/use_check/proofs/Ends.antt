@@ -2,7 +2,7 @@
 use Rattle.std.proofs.Common.{◌≡◌, ℕ, ◌≤◌, arith, refl, sym, ◌∙◌, ap, List, [], ◌∷◌, ◌++◌, length, map, drop, zero, suc, Bool, true, false, ◌&&◌, Some, slice_get}
 use Rattle.core_term.specs.Process.{LifeEnd, Port, nth_port}
 use Rattle.core_term.specs.Rules.{Claim}
-use Rattle.demand_checks.specs.declared.deed.Deed.{Deed}
+use Rattle.act_deeds.specs.declared.deed.Deed.{Deed}
 use Rattle.demand_checks.specs.Answers.{Answers, all_shown, shows}
 use Rattle.use_check.specs.Wires.{end_claims, ends_claims}
 

@@ -13,8 +13,8 @@ use Rattle.core_term.specs.Process.{LifeEnd, Cycles, Until, Process, life_of}
 use Rattle.core_term.specs.Sources.{WireOf}
 use Rattle.core_term.specs.Atoms.{source_of, site_of}
 use Rattle.core_term.specs.Rules.{Claim, Either, Both, Demands, use_by, end_of, next_end_of, wire_within, wire_until}
-use Rattle.demand_checks.specs.declared.deed.Deed.{Deed}
-use Rattle.demand_checks.specs.declared.deed.Deed.TheVariants as deed
+use Rattle.act_deeds.specs.declared.deed.Deed.{Deed}
+use Rattle.act_deeds.specs.declared.deed.Deed.TheVariants as deed
 use Rattle.demand_checks.specs.declared.rests.Rest.{Rest}
 use Rattle.demand_checks.specs.Answers.{Answers, Tell}
 use Rattle.demand_checks.specs.Deeds.{AreDeeds, deed_at, deed_in, used}
@@ -22,7 +22,7 @@ use Rattle.demand_checks.specs.Found.{AreFound}
 use Rattle.demand_checks.specs.Rests.{AreRests, IsUse, pair_of}
 use Rattle.demand_checks.specs.Sites.{sites_on}
 use Rattle.demand_checks.specs.Unshown.{unshown}
-use Rattle.demand_checks.proofs.Deeds.{deed_stands, deed_send, deed_receive, receive_deed}
+use Rattle.act_deeds.proofs.Deeds.{deed_stands, deed_send, deed_receive, receive_deed}
 use Rattle.demand_checks.proofs.Filtered.{found}
 use Rattle.demand_checks.proofs.Inverted.{used_is, wire_demand, until_claim as until_of}
 use Rattle.demand_checks.proofs.Listed.{has_left, has_right, has_either, mapped, in_map}
@@ -115,6 +115,7 @@ module _ (p : Process) (j : ℕ) (body : Term) (numbered : Numbered [] 0 body) (
   by_deed : (user q : ℕ) (claim : Claim) → IsUse body user (WireOf q) → (one : Deed) → deed_at deeds q ≡ one → Has (received_claims p deeds user q one) claim → Demands p j body rule.V6 user q claim
   by_deed user q claim is_use (deed.Sends m) is has = elim has [ ]
   by_deed user q claim is_use (deed.Sets r) is has = elim has [ ]
+  by_deed user q claim is_use deed.Decides is has = elim has [ ]
   by_deed user q claim is_use deed.Other is has = elim has [ ]
   by_deed user q claim is_use (deed.Receives m) is has =
       let known = some_end deeds user q (life_of p m) claim has in by_end user q m claim is_use (deed_receive body deeds are numbered q m is) known.0 known.1 known.2

@@ -5,8 +5,8 @@ use Rattle.core_term.specs.declared.term.SourceAtom.{SourceAtom}
 use Rattle.core_term.specs.declared.term.SourceAtom.TheVariants.{Wire, Reg, Choice}
 use Rattle.core_term.specs.Process.{LifeEnd, Cycles, Until, Process, life_of}
 use Rattle.core_term.specs.Rules.{Claim, Order, Either, Both, end_of, next_end_of}
-use Rattle.demand_checks.specs.declared.deed.Deed.{Deed}
-use Rattle.demand_checks.specs.declared.deed.Deed.TheVariants.{Sets, Sends, Receives, Other}
+use Rattle.act_deeds.specs.declared.deed.Deed.{Deed}
+use Rattle.act_deeds.specs.declared.deed.Deed.TheVariants.{Sets, Sends, Receives, Decides, Other}
 use Rattle.demand_checks.specs.declared.judge.Judge.{Judge}
 use Rattle.demand_checks.specs.declared.place.Pair.{Pair}
 use Rattle.demand_checks.specs.declared.rests.Rest.{Rest}
@@ -36,6 +36,7 @@ abbrev pub received_claims : Process → List Deed → (user site : ℕ) → Dee
 received_claims p deeds user site (Receives m) = ends_claims deeds user site (life_of p m)
 received_claims p deeds user site (Sends m) = []
 received_claims p deeds user site (Sets r) = []
+received_claims p deeds user site Decides = []
 received_claims p deeds user site Other = []
 
 abbrev pub wire_claims_of : Process → List Deed → ℕ → SourceAtom → List Claim

@@ -1,7 +1,7 @@
 -- A deed names one port.
 use Rattle.std.proofs.Common.{◌≡◌, ℕ, subst, sym, ◌∙◌}
 use Rattle.core_term.specs.AcceptedFile.{process_in}
-use Rattle.demand_checks.specs.declared.deed.Deed.TheVariants.{Sends}
+use Rattle.act_deeds.specs.declared.deed.Deed.TheVariants.{Sends}
 use Rattle.life_tables.specs.Lives.{HasLife, body_in}
 use Rattle.life_tables.proofs.lasts.add_act.Goals as goal
 

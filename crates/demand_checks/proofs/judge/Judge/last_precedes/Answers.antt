@@ -6,7 +6,7 @@ use Rattle.order_rules.specs.Lag.{Admits}
 use Rattle.event_order.specs.Lags.{lag_of}
 use Rattle.demand_checks.specs.Answers.{Decides}
 use Rattle.demand_checks.proofs.Pointed.{is_inside, table_there, table_wide, last_answer}
-use Rattle.demand_checks.proofs.Deeds.{deed_send}
+use Rattle.act_deeds.proofs.Deeds.{deed_send}
 use Rattle.demand_checks.specs.Judge.{body_at}
 use Rattle.demand_checks.proofs.judge.Judge.last_precedes.Goals as goal
 

@@ -1,14 +1,14 @@
-//! What each act of a thread does to a register or a port.
+//! What each act of a thread does to a register or a port, and which acts decide.
 ghost use Rattle.std.specs.Prelude.{◌≡◌, ◌≤◌, ◌++◌, ◌∷◌, [], length, IfOk};
 ghost use Rattle.core_term.specs.Numbering.{Numbered};
 ghost use Rattle.core_term.specs.Widths.{Widths};
 ghost use Rattle.core_term.specs.View.{term_of};
-ghost use Rattle.demand_checks.specs.Deeds.{AreDeeds, deed_of, deeds_in, deeds_of};
+ghost use Rattle.act_deeds.specs.Deeds.{AreDeeds, deed_of, deeds_in, deeds_of};
 
 use core_term::{CoreAct, CoreKind, CoreTerm, CoreThread};
 use std::alloc::{AllocError, Global};
 
-/// What an act does to a register or a port.
+/// What an act does to a register or a port, or that it decides.
 #[derive(Clone, Copy, Debug, PartialEq, Eq)]
 pub enum Deed {
     /// It sets this register.
@@ -17,6 +17,8 @@ pub enum Deed {
     Sends(u32),
     /// It receives from this port.
     Receives(u32),
+    /// It is an `if`, which decides for one of its sides.
+    Decides,
     /// None of these.
     Other,
 }
@@ -42,6 +44,7 @@ fn deed_of(kind: &CoreKind) -> Deed
         CoreKind::Set { reg, .. } => Deed::Sets(*reg),
         CoreKind::Send { port, .. } => Deed::Sends(*port),
         CoreKind::Recv { port } => Deed::Receives(*port),
+        CoreKind::If { .. } => Deed::Decides,
         _ => Deed::Other,
     }
 }

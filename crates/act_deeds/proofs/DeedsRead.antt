@@ -4,7 +4,7 @@
 use Rattle.std.proofs.Common.{◌≡◌, ℕ, ◌+◌, ◌≤◌, arith, refl, sym, ◌∙◌, ap, subst, List, [], ◌∷◌, ◌++◌, length, zero, suc, slice_get, Some, None}
 use Rattle.core_term.specs.declared.term.CoreTerm.{CoreTerm, One', Then', Both'}
 use Rattle.core_term.specs.declared.term.CoreKind as kind
-use Rattle.core_term.specs.declared.term.CoreKind.{CoreKind, Held-CoreKind-If-2, None', Some'}
+use Rattle.core_term.specs.declared.term.CoreKind.{CoreKind, None', Some'}
 use Rattle.core_term.specs.Term.{Term, One, Then, Both, Act, Cycle, Set, Send, Recv, If, When, Block, Wait, Pure, Nothing, site, head}
 use Rattle.core_term.specs.Numbering.{size, act_size, Numbered, NumberedAct}
 use Rattle.core_term.specs.Stands.{Stands, StandsIn, here, in_one, in_then, after_then, in_both, after_both, in_yes, in_no, in_when, in_block}
@@ -13,10 +13,10 @@ use Rattle.core_term.specs.View.{term_of, act_of, after_act}
 use Rattle.core_term.specs.Body.{IsBody}
 use Rattle.core_term.proofs.code_tables.Counted.{counted as places_counted}
 use Rattle.core_term.proofs.turn_points.Idle.{act_site}
-use Rattle.demand_checks.specs.declared.deed.Deed.{Deed}
-use Rattle.demand_checks.specs.declared.deed.Deed.TheVariants.{Other}
-use Rattle.demand_checks.specs.Deeds.{AreDeeds, deed_in, deed_of, deeds_of, deeds_in}
-use Rattle.demand_checks.proofs.Listed.{Sits, sits_whole, sits_first, sits_rest, sits_left, sits_right, both, end_nothing}
+use Rattle.act_deeds.specs.declared.deed.Deed.{Deed}
+use Rattle.act_deeds.specs.declared.deed.Deed.TheVariants.{Decides, Other}
+use Rattle.act_deeds.specs.Deeds.{AreDeeds, deed_in, deed_of, deeds_of, deeds_in}
+use Rattle.act_deeds.proofs.Sitting.{Sits, sits_whole, sits_first, sits_rest, sits_left, sits_right, both, end_nothing}
 
 -- of the acts of a plain term
 abbrev mutual
@@ -100,9 +100,9 @@ mutual
   same_act w s (kind.Set r e) = refl
   same_act w s (kind.Send m e) = refl
   same_act w s (kind.Recv m) = refl
-  same_act w s (kind.If' e p t None' v) = ap (λ z. Other ∷ z) (end_nothing (deeds_of t) ∙ same w t)
-  same_act w s (kind.If' e p t (Some' q u) None) = ap (λ z. Other ∷ z) (both (same w t) (same w u))
-  same_act w s (kind.If' e p t (Some' q u) (Some n)) = ap (λ z. Other ∷ z) (both (same w t) (same w u))
+  same_act w s (kind.If' e p t None' v) = ap (λ z. Decides ∷ z) (end_nothing (deeds_of t) ∙ same w t)
+  same_act w s (kind.If' e p t (Some' q u) None) = ap (λ z. Decides ∷ z) (both (same w t) (same w u))
+  same_act w s (kind.If' e p t (Some' q u) (Some n)) = ap (λ z. Decides ∷ z) (both (same w t) (same w u))
   same_act w s (kind.Block' p t) = ap (λ z. Other ∷ z) (same w t)
   same_act w s (kind.Wait y) = refl
   same_act w s (kind.Pure e) = refl

@@ -7,9 +7,9 @@ use Rattle.core_term.specs.Numbering.{size, Numbered}
 use Rattle.core_term.specs.Stands.{Stands}
 use Rattle.core_term.specs.Acts.{HasAct, Receives, Sends, Sets, IsAt}
 use Rattle.core_term.proofs.code_tables.Acting.{each_site}
-use Rattle.demand_checks.specs.declared.deed.Deed.{Deed}
-use Rattle.demand_checks.specs.declared.deed.Deed.TheVariants as deed
-use Rattle.demand_checks.specs.Deeds.{AreDeeds, deed_in, deed_or, deed_at}
+use Rattle.act_deeds.specs.declared.deed.Deed.{Deed}
+use Rattle.act_deeds.specs.declared.deed.Deed.TheVariants as deed
+use Rattle.act_deeds.specs.Deeds.{AreDeeds, deed_in, deed_or, deed_at}
 
 sends_deed : (a : Act) (m : ℕ) → Sends a m → deed_in a ≡ deed.Sends m
 sends_deed (Send p n e) m k = ap deed.Sends k
