@@ -2,8 +2,6 @@
 use anvil_tool::{MemShelf, MemSink, Status, run_tool};
 use std::alloc::{AllocError, Global};
 
-pub const NOT_BUILT: &[u8] = b"refused: NotBuilt\n";
-
 /// Which loads and puts fail, by their numbers.
 #[derive(Clone, Copy)]
 pub struct Faults<'a> {
@@ -55,7 +53,7 @@ pub fn run_on(
         Vec::from_slice(alloc, stimulus)?,
     ))?;
     let mut shelf = MemShelf::new(files, Vec::from_slice(alloc, faults.loads)?);
-    let mut out = MemSink::new(alloc, 65536, Vec::from_slice(alloc, faults.outs)?)?;
+    let mut out = MemSink::new(alloc, 1048576, Vec::from_slice(alloc, faults.outs)?)?;
     let mut err = MemSink::new(alloc, 1024, Vec::from_slice(alloc, faults.errs)?)?;
     let status = run_tool(alloc, &list, &mut shelf, &mut out, &mut err);
     Ok(Ended { status, out, err })

@@ -1,6 +1,7 @@
 //! Files that a check of classes, names or widths refuses, and the place in each line. Places are counted by hand.
 //!
-//! A row of a table is what it shows, a part of a file, and the answer, with ` ~ ` between.
+//! A row of a table is what it shows, a part of a file, and the answer, with ` ~ ` between. The answer is what stands behind `refused: `, or
+//! `compiled` where the file passes every check.
 use crate::bench::{NO_FAULTS, run};
 use anvil_tool::Status;
 use std::alloc::{AllocError, Global};
@@ -89,7 +90,7 @@ endpoints before registers ~ proc e(p : left ch, p : right ch) { reg r_ : logic[
 registers before threads ~ proc e(p : left ch) { reg r_ : logic[8]; loop { set no := 8'd1 } } ~ BadName at 91
 an inner variable hides an outer one ~ \
     proc e(p : left ch) { reg r : logic[8]; reg s : logic[4]; loop { let x = recv p.req >> { let x = 4'd3 >> \
-    set s := x } >> set r := x >> send p.res(*r) >> cycle 1 } } ~ NotBuilt
+    set s := x } >> set r := x >> send p.res(*r) >> cycle 1 } } ~ compiled
 ";
 
 /// Threads of the process.
@@ -140,12 +141,12 @@ first of two that begin together ~ recv p.req ; cycle 1 ~ NotTail at 112
 second side of an if at the end ~ if 1'd1 { cycle 1 } else { recv p.req } ~ NotTail at 139
 walk of a thread before its tail ~ recv p.req >> set r := 4'd1 >> recv p.req ~ WidthDiffers at 126
 tail of a thread before the next thread ~ recv p.req } loop { set no := 8'd1 ~ NotTail at 112
-a variable and a register of one name ~ let r = recv p.req >> set r := r >> cycle 1 ~ NotBuilt
-a lone word and () may be without a value ~ let x = cycle 1 >> x >> () >> cycle 1 ~ NotBuilt
-one thread may set a register twice ~ set r := 8'd1 >> set r := 8'd2 ~ NotBuilt
+a variable and a register of one name ~ let r = recv p.req >> set r := r >> cycle 1 ~ compiled
+a lone word and () may be without a value ~ let x = cycle 1 >> x >> () >> cycle 1 ~ compiled
+one thread may set a register twice ~ set r := 8'd1 >> set r := 8'd2 ~ compiled
 ";
 
-// Each row's file is refused with its answer.
+// Each row's file is refused with its answer, or compiled.
 #[test]
 fn each_check_refuses(rt: HostRuntime) -> Result<(), Fail> {
     let tables: [(&str, &str, &str); 3] = [
@@ -161,12 +162,21 @@ fn each_check_refuses(rt: HostRuntime) -> Result<(), Fail> {
                 break;
             };
             let file = joined(rt.alloc(), &[*before, case.part, *after])?;
-            let refused = run(rt.alloc(), &["compile", "f"], &file, NO_FAULTS)?;
-            let line = format!(in rt.alloc(); "refused: {}\n", case.answer)?;
-            assert!(rt; refused.status == Status::Refused, "{row}");
-            assert_eq!(rt; refused.out.bytes(), b"".as_slice());
-            assert_eq!(rt; refused.err.bytes(), line.as_bytes(), "{row}");
+            let ended = run(rt.alloc(), &["compile", "f"], &file, NO_FAULTS)?;
             rows = rows.saturating_add(1);
+            if case.answer == "compiled" {
+                assert!(rt; ended.status == Status::Done, "{row}");
+                assert!(rt;
+                    ended.out.bytes().starts_with(b"module anvil__e (\n"),
+                    "{row}"
+                );
+                assert_eq!(rt; ended.err.bytes(), b"".as_slice());
+                continue;
+            }
+            let line = format!(in rt.alloc(); "refused: {}\n", case.answer)?;
+            assert!(rt; ended.status == Status::Refused, "{row}");
+            assert_eq!(rt; ended.out.bytes(), b"".as_slice());
+            assert_eq!(rt; ended.err.bytes(), line.as_bytes(), "{row}");
         }
     }
     assert_eq!(rt; rows, 84);

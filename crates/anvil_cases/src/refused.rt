@@ -1,5 +1,5 @@
-//! Files that the lexer or the parser refuses, and the place in each line. Places are counted by hand.
-use crate::bench::{NO_FAULTS, NOT_BUILT, run};
+//! Files that the lexer or the parser refuses, and the place in each line; and files at their limits. Places are counted by hand.
+use crate::bench::{NO_FAULTS, run};
 use anvil_tool::Status;
 use std::alloc::{AllocError, Global};
 use std::str;
@@ -40,7 +40,7 @@ fn place_of(line: &[u8]) -> Option<usize> {
 }
 
 /// Files as parts, each so many times, and the line that tells their refusal.
-const REFUSED: [(&str, &[(&[u8], usize)], &[u8]); 15] = [
+const REFUSED: [(&str, &[(&[u8], usize)], &[u8]); 11] = [
     ("no UTF-8", &[(b"proc\xff", 1)], b"refused: NotUtf8 at 4\n"),
     (
         "a character that begins no token",
@@ -78,19 +78,9 @@ const REFUSED: [(&str, &[(&[u8], usize)], &[u8]); 15] = [
         b"refused: BadChar at 12\n",
     ),
     (
-        "64 open brackets",
-        &[(SET, 1), (b"(", 62), (b"8'd1", 1), (b")", 62), (END, 1)],
-        NOT_BUILT,
-    ),
-    (
         "65 open brackets",
         &[(SET, 1), (b"(", 63), (b"8'd1", 1), (b")", 63), (END, 1)],
         b"refused: TooDeep at 107\n",
-    ),
-    (
-        "16 threads",
-        &[(b"proc t() { ", 1), (b"loop { cycle 1 } ", 16), (b"}", 1)],
-        NOT_BUILT,
     ),
     (
         "17 threads",
@@ -98,16 +88,10 @@ const REFUSED: [(&str, &[(&[u8], usize)], &[u8]); 15] = [
         b"refused: TooMany at 283\n",
     ),
     (
-        "255 nodes of an expression",
-        &[(SET, 1), (b"8'd1 + ", 127), (b"8'd1", 1), (END, 1)],
-        NOT_BUILT,
-    ),
-    (
         "257 nodes of an expression",
         &[(SET, 1), (b"8'd1 + ", 128), (b"8'd1", 1), (END, 1)],
         b"refused: TooMany at 941\n",
     ),
-    ("a client of a memory", &[(CLIENT, 1)], NOT_BUILT),
 ];
 
 #[test]
@@ -122,17 +106,56 @@ fn the_line_has_code_and_place(rt: HostRuntime) -> Result<(), Fail> {
     Ok(())
 }
 
+/// Files of one process at a limit, as parts, and what the header of its module begins with.
+const AT_A_LIMIT: [(&str, &[(&[u8], usize)], &[u8]); 4] = [
+    (
+        "64 open brackets",
+        &[(SET, 1), (b"(", 62), (b"8'd1", 1), (b")", 62), (END, 1)],
+        b"module anvil__d (\n",
+    ),
+    (
+        "16 threads",
+        &[(b"proc t() { ", 1), (b"loop { cycle 1 } ", 16), (b"}", 1)],
+        b"module anvil__t (\n",
+    ),
+    (
+        "255 nodes of an expression",
+        &[(SET, 1), (b"8'd1 + ", 127), (b"8'd1", 1), (END, 1)],
+        b"module anvil__d (\n",
+    ),
+    (
+        "a client of a memory",
+        &[(CLIENT, 1)],
+        b"module anvil__client (\n",
+    ),
+];
+
+#[test]
+fn files_at_a_limit_are_compiled(rt: HostRuntime) -> Result<(), Fail> {
+    for (name, parts, header) in AT_A_LIMIT.iter() {
+        let file = text_of(rt.alloc(), parts)?;
+        let done = run(rt.alloc(), &["compile", "f"], &file, NO_FAULTS)?;
+        assert!(rt; done.status == Status::Done, "{name}");
+        assert!(rt; done.out.bytes().starts_with(*header), "{name}");
+        assert_eq!(rt; done.err.bytes(), b"".as_slice());
+    }
+    Ok(())
+}
+
 // A file that is cut short is refused at a place within it, unless what is left is some items.
 #[test]
 fn a_file_cut_short(rt: HostRuntime) -> Result<(), Fail> {
     let mut whole = 0u32;
     for length in 0..CLIENT.len() {
         let cut = run(rt.alloc(), &["compile", "f"], &CLIENT[..length], NO_FAULTS)?;
-        assert_eq!(rt; cut.out.bytes(), b"".as_slice());
-        if cut.status == Status::Done || cut.err.bytes() == NOT_BUILT {
+        let modules = cut.out.bytes();
+        if cut.status == Status::Done {
+            let client = modules.starts_with(b"module anvil__client (\n");
+            assert!(rt; modules.is_empty() || client, "{length}");
             whole = whole.saturating_add(1);
         } else {
             assert!(rt; cut.status == Status::Refused, "{length}");
+            assert_eq!(rt; modules, b"".as_slice());
             let within = place_of(cut.err.bytes()).is_some_and(|place| place <= length);
             assert!(rt; within, "{length}");
         }

@@ -7,7 +7,6 @@ use Rattle.anvil_grammar.specs.declared.error.ParseErr.TheVariants as parser
 use Rattle.anvil_tool.specs.Form.{usage_line}
 use Rattle.channel_classes.specs.declared.error.ClassErr.TheVariants as class
 use Rattle.core_file.specs.declared.error.NameErr.TheVariants as name
-use Rattle.anvil_tool.specs.Output.{not_built}
 use Rattle.anvil_tool.specs.Refused.{of_classes, of_lexer, of_parser, of_processes, refusal_line}
 
 of_the_lexer : refusal_line (of_lexer (lexer.LongName 0)) ≡ codes "refused: LongName at 0\n"
@@ -25,9 +24,6 @@ of_a_class = refl
 of_widths : refusal_line (of_processes (name.WidthDiffers 48 8 1)) ≡ codes "refused: WidthDiffers at 48\n"
 unfolding digits
 of_widths = refl
-
-of_the_builder : refusal_line not_built ≡ codes "refused: NotBuilt\n"
-of_the_builder = refl
 
 of_usage : usage_line ≡ codes "usage: anvil check FILE | compile FILE | run FILE PROC STIM\n"
 of_usage = refl

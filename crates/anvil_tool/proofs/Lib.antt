@@ -14,9 +14,7 @@ pub mod Ruled
 pub mod Written
 -- The forms that load one file, and two; that at most one answer has its cause.
 pub mod OneFile
-pub mod OneCheck
 pub mod OneRun
-pub mod Plain
 pub mod OneAnswer
 -- Examples.
 pub mod Examples

@@ -9,10 +9,9 @@ use Rattle.anvil_tool.specs.declared.status.Status.{Status}
 use Rattle.anvil_tool.specs.declared.status.Status.TheVariants.{Done, Refused, Usage, TooLong, Breach}
 use Rattle.anvil_tool.specs.Form.{Form, Command, check, compile, run, Load, loads_of, usage_line}
 use Rattle.anvil_tool.specs.Refused.{refusal_line}
-use Rattle.anvil_tool.specs.Stages.{Stages, stages_of, stages_by, name_in, run_refuses, run_goes_on, run_breaks}
+use Rattle.anvil_tool.specs.Stages.{Stages, stages_of, stages_by, name_in, file_refuses, file_goes_on, run_refuses, run_goes_on, run_breaks}
 use Rattle.anvil_tool.specs.Answer.{Tells, Exceeds, Leads, here, on, too_long_line}
 use Rattle.anvil_tool.specs.Laws.{HasCause, of_words, of_length, of_stage, of_text, of_breach, HasOneAnswer}
-use Rattle.anvil_tool.proofs.Plain.{refused_once, plain_or_refused}
 use Rattle.anvil_tool.proofs.Ruled.{check_refused_once, accepted_or_refused}
 use Rattle.anvil_tool.proofs.Processes.{process_refused_once, process_or_refused}
 use Rattle.anvil_tool.proofs.Runs.{text_refused_once, run_or_refused, broken_once}
@@ -23,25 +22,15 @@ pub record AreExact (stages : Stages) : Type 0 where
   pub apart : (loaded : List (List ℕ)) (refusal : Refusal) → stages.refuses loaded refusal → stages.goes_on loaded → ⊥
   pub one_break : (loaded : List (List ℕ)) (text other line said : List ℕ) → stages.breaks loaded text line → stages.breaks loaded other said → (text ≡ other) × (line ≡ said)
 
-check_once : (operands loaded : List (List ℕ)) (one other : Refusal) → (stages_by check operands).refuses loaded one → (stages_by check operands).refuses loaded other → one ≡ other
-check_once operands [] one other first second = absurd first
-check_once operands (file ∷ []) one other first second = check_refused_once file one other first second
-check_once operands (file ∷ next ∷ more) one other first second = absurd first
+file_once : (loaded : List (List ℕ)) (one other : Refusal) → file_refuses loaded one → file_refuses loaded other → one ≡ other
+file_once [] one other first second = absurd first
+file_once (file ∷ []) one other first second = check_refused_once file one other first second
+file_once (file ∷ next ∷ more) one other first second = absurd first
 
-check_apart : (operands loaded : List (List ℕ)) (refusal : Refusal) → (stages_by check operands).refuses loaded refusal → (stages_by check operands).goes_on loaded → ⊥
-check_apart operands [] refusal first accepted = first
-check_apart operands (file ∷ []) refusal first accepted = accepted_or_refused file refusal first accepted
-check_apart operands (file ∷ next ∷ more) refusal first accepted = first
-
-compile_once : (operands loaded : List (List ℕ)) (one other : Refusal) → (stages_by compile operands).refuses loaded one → (stages_by compile operands).refuses loaded other → one ≡ other
-compile_once operands [] one other first second = absurd first
-compile_once operands (file ∷ []) one other first second = refused_once file one other first second
-compile_once operands (file ∷ next ∷ more) one other first second = absurd first
-
-compile_apart : (operands loaded : List (List ℕ)) (refusal : Refusal) → (stages_by compile operands).refuses loaded refusal → (stages_by compile operands).goes_on loaded → ⊥
-compile_apart operands [] refusal first plain = first
-compile_apart operands (file ∷ []) refusal first plain = plain_or_refused file refusal first plain
-compile_apart operands (file ∷ next ∷ more) refusal first plain = first
+file_apart : (loaded : List (List ℕ)) (refusal : Refusal) → file_refuses loaded refusal → file_goes_on loaded → ⊥
+file_apart [] refusal first accepted = first
+file_apart (file ∷ []) refusal first accepted = accepted_or_refused file refusal first accepted
+file_apart (file ∷ next ∷ more) refusal first accepted = first
 
 run_once : (name : List ℕ) (loaded : List (List ℕ)) (one other : Refusal) → run_refuses name loaded one → run_refuses name loaded other → one ≡ other
 run_once name [] one other first second = absurd first
@@ -62,8 +51,8 @@ run_breaks_once name (file ∷ stimulus ∷ []) text other line said first secon
 run_breaks_once name (file ∷ stimulus ∷ next ∷ more) text other line said first second = absurd first
 
 exact : (command : Command) (operands : List (List ℕ)) → AreExact (stages_by command operands)
-exact check operands = record { once = check_once operands; apart = check_apart operands; one_break = λ loaded text other line said first second. absurd first }
-exact compile operands = record { once = compile_once operands; apart = compile_apart operands; one_break = λ loaded text other line said first second. absurd first }
+exact check operands = record { once = file_once; apart = file_apart; one_break = λ loaded text other line said first second. absurd first }
+exact compile operands = record { once = file_once; apart = file_apart; one_break = λ loaded text other line said first second. absurd first }
 exact run operands = record { once = run_once (name_in operands); apart = run_apart (name_in operands); one_break = run_breaks_once (name_in operands) }
 
 -- where a way ends: refused, too long, or behind the last stage

@@ -1,14 +1,15 @@
--- The form that loads one file: which stages are reached, and what that makes of the answers.
+-- A form that loads one file: which stages are reached, and what that makes of the answers.
 --
 -- The claim: before the load the stage without bytes is reached, and behind it the stage with the bytes that were loaded, and no
--- other. So what is known of these bytes is what the answers tell over forms. The argument is by the one load.
+-- other. So what is known of these bytes is what the answers tell over forms. The argument is by the one load. A form is given by
+-- its file and by what is written for the file.
 use Rattle.std.proofs.Common.{◌≡◌, ◌⊎◌, inl, inr, ℕ, ◌<◌, ◌≤◌, List, [], ◌∷◌, length, Option, Some, None, IfSome, refl, sym, subst, arith}
 use Rattle.std.specs.Io.KnownBytes.{Appends}
 use Rattle.anvil_io.specs.Causes.{AppendsPrefix, Rose}
 use Rattle.anvil_tool.specs.declared.refusal.Refusal.{Refusal}
-use Rattle.anvil_tool.specs.Form.{Load, compile_form, file_load}
-use Rattle.anvil_tool.specs.Stages.{IsPlainText, compile_refuses, compile_goes_on}
-use Rattle.anvil_tool.specs.Output.{IsOutput, IsRefused, IsRefusalLine}
+use Rattle.anvil_tool.specs.Form.{Form, Load, loads_of, file_load}
+use Rattle.anvil_tool.specs.Stages.{Stages, stages_of, file_stages, file_refuses, file_goes_on}
+use Rattle.anvil_tool.specs.Check.{IsAcceptedText, IsCheckRefused, IsCheckLine}
 use Rattle.anvil_tool.specs.Refused.{no_memory_line}
 use Rattle.anvil_tool.specs.Answer.{MayGive, Exceeds, Leads, here, on, Reaches, Asks, IsFirstRefusal, Passes, IsLine, of_memory, of_refusal, HasNoFault, IsRefusedBy, IsWritten, OutFailed}
 
@@ -32,97 +33,112 @@ no_rise before now fine rose = omega (arith, fine.same, fine.counts, rose)
 
 -- The stages.
 
--- before the load
-pub asked : (gives : Load → List ℕ → Type 0) (file : List ℕ) → Asks gives (compile_form file) [] (file_load file)
-asked gives file = record { later = []; reached = here; goes_on = tt }
-
--- behind it
-pub reached : (gives : Load → List ℕ → Type 0) (file bytes : List ℕ) → gives (file_load file) bytes → Reaches gives (compile_form file) (bytes ∷ []) []
-reached gives file bytes given = on [] (file_load file) [] bytes tt given here
-
 -- the two stages that are reached
-pub two_stages : (gives : Load → List ℕ → Type 0) (goes_on : List (List ℕ) → Type 0) (loaded : List (List ℕ)) (rest : List Load) (load : Load)
+two_stages : (gives : Load → List ℕ → Type 0) (goes_on : List (List ℕ) → Type 0) (loaded : List (List ℕ)) (rest : List Load) (load : Load)
     → Leads gives goes_on loaded rest [] (load ∷ [])
     → ((loaded ≡ []) × (rest ≡ load ∷ [])) ⊎ ((bytes : List ℕ) × (loaded ≡ bytes ∷ []) × gives load bytes × (rest ≡ []))
 two_stages gives goes_on loaded rest load here = inl (refl, refl)
 two_stages gives goes_on loaded rest load (on before first loads bytes went given here) = inr (bytes, refl, given, refl)
 
--- a refusal is one of the bytes of the file
-pub refusal_told : (gives : Load → List ℕ → Type 0) (file : List ℕ) (refusal : Refusal) → IsFirstRefusal gives (compile_form file) refusal
-    → (bytes : List ℕ) × gives (file_load file) bytes × IsRefused bytes refusal
-refusal_told gives file refusal first = elim (two_stages gives compile_goes_on first.loaded first.rest (file_load file) first.reached) [
-  | inl (none, rest) ↦ absurd (subst (λ loaded. compile_refuses loaded refusal) none first.refuses)
-  | inr (bytes, one, given, rest) ↦ (bytes, given, subst (λ loaded. compile_refuses loaded refusal) one first.refuses)
-]
+module _ (form : Form) (file : List ℕ) (output : List ℕ → List ℕ → Type 0) (loads : loads_of form ≡ file_load file ∷ []) (stages : stages_of form ≡ file_stages output) where
+  -- the way to a stage, told of the file
+  way_told : (gives : Load → List ℕ → Type 0) (loaded : List (List ℕ)) (rest : List Load) → Reaches gives form loaded rest → Leads gives file_goes_on loaded rest [] (file_load file ∷ [])
+  way_told gives loaded rest reached =
+      subst (λ (s : Stages). Leads gives s.goes_on loaded rest [] (file_load file ∷ [])) stages
+      (subst (λ all. Leads gives (stages_of form).goes_on loaded rest [] all) loads reached)
 
--- a load that is asked for is that of the file
-pub load_asked : (gives : Load → List ℕ → Type 0) (file : List ℕ) (loaded : List (List ℕ)) (load : Load) → Asks gives (compile_form file) loaded load → load ≡ file_load file
-load_asked gives file loaded load asks = elim (two_stages gives compile_goes_on loaded (load ∷ asks.later) (file_load file) asks.reached) [
-  | inl (none, rest) ↦ cc
-  | inr (bytes, one, given, rest) ↦ absurd cc
-]
+  -- and back
+  way_of : (gives : Load → List ℕ → Type 0) (loaded : List (List ℕ)) (rest : List Load) → Leads gives file_goes_on loaded rest [] (file_load file ∷ []) → Reaches gives form loaded rest
+  way_of gives loaded rest leads =
+      subst (λ all. Leads gives (stages_of form).goes_on loaded rest [] all) (sym loads)
+      (subst (λ (s : Stages). Leads gives s.goes_on loaded rest [] (file_load file ∷ [])) (sym stages) leads)
 
--- where no stage refuses, the file is plain
-pub plain_told : (gives : Load → List ℕ → Type 0) (file : List ℕ) (loaded : List (List ℕ)) → Passes gives (compile_form file) loaded
-    → (bytes : List ℕ) × gives (file_load file) bytes × IsPlainText bytes
-plain_told gives file loaded passes = elim (two_stages gives compile_goes_on loaded [] (file_load file) passes.reached) [
-  | inl (none, rest) ↦ absurd cc
-  | inr (bytes, one, given, rest) ↦ (bytes, given, subst compile_goes_on one passes.goes_on)
-]
+  -- before the load
+  pub asked : (gives : Load → List ℕ → Type 0) → Asks gives form [] (file_load file)
+  asked gives = record { later = []; reached = way_of gives [] (file_load file ∷ []) here; goes_on = subst (λ (s : Stages). s.goes_on []) (sym stages) tt }
 
--- The answers.
+  -- behind it
+  reached : (gives : Load → List ℕ → Type 0) (bytes : List ℕ) → gives (file_load file) bytes → Reaches gives form (bytes ∷ []) []
+  reached gives bytes given = way_of gives (bytes ∷ []) [] (on [] (file_load file) [] bytes tt given here)
 
-pub passes : (told : List ℕ → Option (List ℕ)) (file bytes text : List ℕ) → MayGive told (file_load file) bytes → IsOutput bytes text → Passes (MayGive told) (compile_form file) (bytes ∷ [])
-passes told file bytes text given output = record {
-  reached = reached (MayGive told) file bytes given;
-  goes_on = record {
-    file = output.describe.file;
-    counters = output.describe.describe.counters;
-    accepted = output.describe.accepted;
-    plain = output.describe.describe.plain;
-  };
-}
+  -- a refusal is one of the bytes of the file
+  pub refusal_told : (gives : Load → List ℕ → Type 0) (refusal : Refusal) → IsFirstRefusal gives form refusal
+      → (bytes : List ℕ) × gives (file_load file) bytes × IsCheckRefused bytes refusal
+  refusal_told gives refusal first =
+      let refuses : file_refuses first.loaded refusal = subst (λ (s : Stages). s.refuses first.loaded refusal) stages first.refuses in
+      elim (two_stages gives file_goes_on first.loaded first.rest (file_load file) (way_told gives first.loaded first.rest first.reached)) [
+        | inl (none, rest) ↦ absurd (subst (λ loaded. file_refuses loaded refusal) none refuses)
+        | inr (bytes, one, given, rest) ↦ (bytes, given, subst (λ loaded. file_refuses loaded refusal) one refuses)
+      ]
 
-pub first_refusal : (told : List ℕ → Option (List ℕ)) (file bytes : List ℕ) (refusal : Refusal) → MayGive told (file_load file) bytes → IsRefused bytes refusal
-    → IsFirstRefusal (MayGive told) (compile_form file) refusal
-first_refusal told file bytes refusal given refused = record {
-  loaded = bytes ∷ [];
-  rest = [];
-  reached = reached (MayGive told) file bytes given;
-  refuses = refused;
-}
+  -- a load that is asked for is that of the file
+  pub load_asked : (gives : Load → List ℕ → Type 0) (loaded : List (List ℕ)) (load : Load) → Asks gives form loaded load → load ≡ file_load file
+  load_asked gives loaded load asks =
+      elim (two_stages gives file_goes_on loaded (load ∷ asks.later) (file_load file) (way_told gives loaded (load ∷ asks.later) asks.reached)) [
+        | inl (none, rest) ↦ cc
+        | inr (bytes, one, given, rest) ↦ absurd cc
+      ]
 
-pub refused_by : (told : List ℕ → Option (List ℕ)) (file bytes line : List ℕ) (old new : Option (List ℕ)) → MayGive told (file_load file) bytes → IsRefusalLine bytes line
-    → Appends old new line → IsRefusedBy told (compile_form file) old new
-refused_by told file bytes line old new given refused appended = record {
-  refusal = refused.refusal;
-  first = first_refusal told file bytes refused.refusal given refused.refused;
-  appended = subst (λ one. Appends old new one) refused.is appended;
-}
+  -- where no stage refuses, the file is accepted
+  pub accepted_told : (gives : Load → List ℕ → Type 0) (loaded : List (List ℕ)) → Passes gives form loaded
+      → (bytes : List ℕ) × gives (file_load file) bytes × IsAcceptedText bytes
+  accepted_told gives loaded passes =
+      let goes : file_goes_on loaded = subst (λ (s : Stages). s.goes_on loaded) stages passes.goes_on in
+      elim (two_stages gives file_goes_on loaded [] (file_load file) (way_told gives loaded [] passes.reached)) [
+        | inl (none, rest) ↦ absurd cc
+        | inr (bytes, one, given, rest) ↦ (bytes, given, subst file_goes_on one goes)
+      ]
 
-pub written : (told : List ℕ → Option (List ℕ)) (file bytes text : List ℕ) (old new : Option (List ℕ)) → MayGive told (file_load file) bytes → IsOutput bytes text
-    → Appends old new text → IsWritten told (compile_form file) old new
-written told file bytes text old new given output appended = record {
-  loaded = bytes ∷ [];
-  passes = passes told file bytes text given output;
-  text = text;
-  writes = output;
-  appended = appended;
-}
+  -- The answers.
 
-pub out_failed : (told : List ℕ → Option (List ℕ)) (file bytes text : List ℕ) (old new : Option (List ℕ)) (before now : ℕ) → MayGive told (file_load file) bytes → IsOutput bytes text
-    → AppendsPrefix old new text → Rose before now → OutFailed told (compile_form file) old new before now
-out_failed told file bytes text old new before now given output part cause = record {
-  loaded = bytes ∷ [];
-  passes = passes told file bytes text given output;
-  text = text;
-  begins = output;
-  part = part;
-  cause = cause;
-}
+  passes : (told : List ℕ → Option (List ℕ)) (bytes : List ℕ) → MayGive told (file_load file) bytes → IsAcceptedText bytes → Passes (MayGive told) form (bytes ∷ [])
+  passes told bytes given accepted = record {
+    reached = reached (MayGive told) bytes given;
+    goes_on = subst (λ (s : Stages). s.goes_on (bytes ∷ [])) (sym stages) accepted;
+  }
 
-pub line_of : (told : List ℕ → Option (List ℕ)) (file bytes line : List ℕ) → MayGive told (file_load file) bytes → (line ≡ no_memory_line) ⊎ IsRefusalLine bytes line
-    → IsLine told (Some (compile_form file)) line
-line_of told file bytes line given (inl memory) = subst (IsLine told (Some (compile_form file))) (sym memory) (of_memory (compile_form file))
-line_of told file bytes line given (inr refused) =
-    subst (IsLine told (Some (compile_form file))) (sym refused.is) (of_refusal (compile_form file) refused.refusal (first_refusal told file bytes refused.refusal given refused.refused))
+  first_refusal : (told : List ℕ → Option (List ℕ)) (bytes : List ℕ) (refusal : Refusal) → MayGive told (file_load file) bytes → IsCheckRefused bytes refusal
+      → IsFirstRefusal (MayGive told) form refusal
+  first_refusal told bytes refusal given refused = record {
+    loaded = bytes ∷ [];
+    rest = [];
+    reached = reached (MayGive told) bytes given;
+    refuses = subst (λ (s : Stages). s.refuses (bytes ∷ []) refusal) (sym stages) refused;
+  }
+
+  pub refused_by : (told : List ℕ → Option (List ℕ)) (bytes line : List ℕ) (old new : Option (List ℕ)) → MayGive told (file_load file) bytes → IsCheckLine bytes line
+      → Appends old new line → IsRefusedBy told form old new
+  refused_by told bytes line old new given refused appended = record {
+    refusal = refused.refusal;
+    first = first_refusal told bytes refused.refusal given refused.refused;
+    appended = subst (λ one. Appends old new one) refused.is appended;
+  }
+
+  pub line_of : (told : List ℕ → Option (List ℕ)) (bytes line : List ℕ) → MayGive told (file_load file) bytes → (line ≡ no_memory_line) ⊎ IsCheckLine bytes line
+      → IsLine told (Some form) line
+  line_of told bytes line given (inl memory) = subst (IsLine told (Some form)) (sym memory) (of_memory form)
+  line_of told bytes line given (inr refused) =
+      subst (IsLine told (Some form)) (sym refused.is) (of_refusal form refused.refusal (first_refusal told bytes refused.refusal given refused.refused))
+
+  -- what is written is so for an accepted file alone
+  module _ (accepts : (bytes text : List ℕ) → output bytes text → IsAcceptedText bytes) where
+    pub written : (told : List ℕ → Option (List ℕ)) (bytes text : List ℕ) (old new : Option (List ℕ)) → MayGive told (file_load file) bytes → output bytes text
+        → Appends old new text → IsWritten told form old new
+    written told bytes text old new given is appended = record {
+      loaded = bytes ∷ [];
+      passes = passes told bytes given (accepts bytes text is);
+      text = text;
+      writes = subst (λ (s : Stages). s.writes (bytes ∷ []) text) (sym stages) is;
+      appended = appended;
+    }
+
+    pub out_failed : (told : List ℕ → Option (List ℕ)) (bytes text : List ℕ) (old new : Option (List ℕ)) (before now : ℕ) → MayGive told (file_load file) bytes → output bytes text
+        → AppendsPrefix old new text → Rose before now → OutFailed told form old new before now
+    out_failed told bytes text old new before now given is part cause = record {
+      loaded = bytes ∷ [];
+      passes = passes told bytes given (accepts bytes text is);
+      text = text;
+      begins = subst (λ (s : Stages). s.begins (bytes ∷ []) text) (sym stages) is;
+      part = part;
+      cause = cause;
+    }

@@ -4,12 +4,10 @@
 -- refuses their bytes, or goes on, to the load of the next file, and behind the last one to the output. The bytes are
 -- listed in the order of the loads.
 use Rattle.std.specs.Prelude.{ℕ, List, [], ◌∷◌}
-use Rattle.anvil_tree.specs.Tree.{File}
-use Rattle.plain_file.specs.Plain.{Counter, IsPlainFile}
 use Rattle.anvil_tool.specs.declared.refusal.Refusal.{Refusal}
 use Rattle.anvil_tool.specs.Form.{Command, check, compile, run, Form}
-use Rattle.anvil_tool.specs.Output.{IsOutput, IsRefused}
-use Rattle.anvil_tool.specs.Check.{IsCheckRefused, IsAcceptedFile, IsAcceptedText, IsAcceptedLine}
+use Rattle.anvil_tool.specs.Output.{IsOutput}
+use Rattle.anvil_tool.specs.Check.{IsCheckRefused, IsAcceptedText, IsAcceptedLine}
 use Rattle.anvil_tool.specs.Run.{IsProcessRefused, IsTextRefused, HasProcess, HasRun, IsLog, IsLogFront, IsBrokenLog}
 
 -- what the stages of a command say of the bytes that they have
@@ -22,46 +20,31 @@ pub record Stages : Type 1 where
   -- a text that stops early, at a promise that is broken, and the line that says so
   pub breaks : List (List ℕ) → List ℕ → List ℕ → Type 0
 
--- `check`: FILE keeps the timing rules, or is refused.
+-- `check` and `compile`: FILE keeps the timing rules, or is refused. What is written for it is their own.
 
-abbrev pub check_refuses : List (List ℕ) → Refusal → Type 0
-check_refuses [] refusal = ⊥
-check_refuses (file ∷ []) refusal = IsCheckRefused file refusal
-check_refuses (file ∷ other ∷ more) refusal = ⊥
+abbrev pub file_refuses : List (List ℕ) → Refusal → Type 0
+file_refuses [] refusal = ⊥
+file_refuses (file ∷ []) refusal = IsCheckRefused file refusal
+file_refuses (file ∷ other ∷ more) refusal = ⊥
 
-abbrev pub check_goes_on : List (List ℕ) → Type 0
-check_goes_on [] = Unit {0}
-check_goes_on (file ∷ []) = IsAcceptedText file
-check_goes_on (file ∷ other ∷ more) = ⊥
+abbrev pub file_goes_on : List (List ℕ) → Type 0
+file_goes_on [] = Unit {0}
+file_goes_on (file ∷ []) = IsAcceptedText file
+file_goes_on (file ∷ other ∷ more) = ⊥
 
-abbrev pub check_writes : List (List ℕ) → List ℕ → Type 0
-check_writes [] text = ⊥
-check_writes (file ∷ []) text = IsAcceptedLine file text
-check_writes (file ∷ other ∷ more) text = ⊥
+abbrev pub file_writes : (output : List ℕ → List ℕ → Type 0) → List (List ℕ) → List ℕ → Type 0
+file_writes output [] text = ⊥
+file_writes output (file ∷ []) text = output file text
+file_writes output (file ∷ other ∷ more) text = ⊥
 
--- `compile`: FILE has modules, or is refused.
-
--- bytes that spell an accepted file that is plain
-pub record IsPlainText (bytes : List ℕ) : Type 0 where
-  pub file : File
-  pub counters : List Counter
-  pub accepted : IsAcceptedFile bytes file
-  pub plain : IsPlainFile counters file
-
-abbrev pub compile_refuses : List (List ℕ) → Refusal → Type 0
-compile_refuses [] refusal = ⊥
-compile_refuses (file ∷ []) refusal = IsRefused file refusal
-compile_refuses (file ∷ other ∷ more) refusal = ⊥
-
-abbrev pub compile_goes_on : List (List ℕ) → Type 0
-compile_goes_on [] = Unit {0}
-compile_goes_on (file ∷ []) = IsPlainText file
-compile_goes_on (file ∷ other ∷ more) = ⊥
-
-abbrev pub compile_writes : List (List ℕ) → List ℕ → Type 0
-compile_writes [] text = ⊥
-compile_writes (file ∷ []) text = IsOutput file text
-compile_writes (file ∷ other ∷ more) text = ⊥
+abbrev pub file_stages : (output : List ℕ → List ℕ → Type 0) → Stages
+file_stages output = record {
+  refuses = file_refuses;
+  goes_on = file_goes_on;
+  writes = file_writes output;
+  begins = file_writes output;
+  breaks = λ loaded text line. ⊥;
+}
 
 -- `run`: FILE has a process of the name, then STIM has rows for it.
 
@@ -103,20 +86,8 @@ name_in (file ∷ name ∷ more) = name
 
 -- The stages of each command, which may ask for the words of the form too.
 abbrev pub stages_by : Command → List (List ℕ) → Stages
-stages_by check operands = record {
-  refuses = check_refuses;
-  goes_on = check_goes_on;
-  writes = check_writes;
-  begins = check_writes;
-  breaks = λ loaded text line. ⊥;
-}
-stages_by compile operands = record {
-  refuses = compile_refuses;
-  goes_on = compile_goes_on;
-  writes = compile_writes;
-  begins = compile_writes;
-  breaks = λ loaded text line. ⊥;
-}
+stages_by check operands = file_stages IsAcceptedLine
+stages_by compile operands = file_stages IsOutput
 stages_by run operands = record {
   refuses = run_refuses (name_in operands);
   goes_on = run_goes_on (name_in operands);

@@ -6,9 +6,9 @@ ghost use Rattle.sv_tree.specs.Text.{modules_text};
 ghost use Rattle.anvil_tool.specs.declared.refusal.Refusal.{Refusal};
 ghost use Rattle.anvil_tool.specs.Form.{compile_form, longest_file};
 ghost use Rattle.anvil_tool.specs.Answer.{HasNoFault, IsFirstRefusal, IsLine, IsReadFault, IsRefusedBy, IsTooLong, IsUntouched, IsWritten, LineFailed, OutFailed, Overflows, Ends, Tells};
-ghost use Rattle.anvil_tool.specs.Output.{IsOutput, IsRefusalLine, IsRefused};
+ghost use Rattle.anvil_tool.specs.Check.{IsAcceptedText, IsCheckLine, IsCheckRefused};
+ghost use Rattle.anvil_tool.specs.Output.{IsOutput};
 ghost use Rattle.anvil_tool.specs.Refused.{IsLineOf, no_memory_line, refusal_line};
-ghost use Rattle.anvil_tool.specs.Stages.{IsPlainText};
 
 use crate::complain::{complain, complain_of, complain_refusal};
 use crate::modules::modules_of_bytes;
@@ -85,7 +85,7 @@ pub fn compile_file<S: Shelf, O: Sink, E: Sink>(
     }
 }
 
-// Puts the modules of a plain file, or the line that stands beside a refusal.
+// Puts the modules of an accepted file, or the line that stands beside a refusal.
 fn compile<O: Sink, E: Sink>(alloc: Global, bytes: &[u8], out: &mut O, err: &mut E) -> Status
     requires { length bytes.now ≤ longest_file }
     ensures status { (result ≡ Status.Done) ⊎ (result ≡ Status.Refused) ⊎ (result ≡ Status.NoMemory)
@@ -96,8 +96,8 @@ fn compile<O: Sink, E: Sink>(alloc: Global, bytes: &[u8], out: &mut O, err: &mut
         → IsUntouched (E.held err.old) (E.held err.new) (E.faults err.old) (E.faults err.new) }
     ensures out_fine { result ≢ Status.WriteFault → O.faults out.new ≡ O.faults out.old }
     ensures refused { result ≡ Status.Refused
-        → (line : List ℕ) × IsRefusalLine bytes.now line × Appends (E.held err.old) (E.held err.new) line }
-    ensures every_refusal { (refusal : Refusal) → IsRefused bytes.now refusal
+        → (line : List ℕ) × IsCheckLine bytes.now line × Appends (E.held err.old) (E.held err.new) line }
+    ensures every_refusal { (refusal : Refusal) → IsCheckRefused bytes.now refusal
         → ((result ≡ Status.Refused) × Appends (E.held err.old) (E.held err.new) (refusal_line refusal))
         ⊎ (result ≡ Status.NoMemory)
         ⊎ ((result ≡ Status.WriteFault)
@@ -112,11 +112,11 @@ fn compile<O: Sink, E: Sink>(alloc: Global, bytes: &[u8], out: &mut O, err: &mut
         × Rose (O.faults out.old) (O.faults out.new)
         × IsUntouched (E.held err.old) (E.held err.new) (E.faults err.old) (E.faults err.new))
         ⊎ (IsUntouched (O.held out.old) (O.held out.new) (O.faults out.old) (O.faults out.new)
-        × (line : List ℕ) × ((line ≡ no_memory_line) ⊎ IsRefusalLine bytes.now line)
+        × (line : List ℕ) × ((line ≡ no_memory_line) ⊎ IsCheckLine bytes.now line)
         × AppendsPrefix (E.held err.old) (E.held err.new) line × Rose (E.faults err.old) (E.faults err.new)) }
     ensures later { O.faults out.old ≤ O.faults out.new }
     ensures err_later { E.faults err.old ≤ E.faults err.new }
-    ensures complete { IsPlainText bytes.now → HasNoFault (O.faults out.old) (O.faults out.new)
+    ensures complete { IsAcceptedText bytes.now → HasNoFault (O.faults out.old) (O.faults out.new)
         → HasNoFault (E.faults err.old) (E.faults err.new) → (result ≡ Status.Done) ⊎ (result ≡ Status.NoMemory) }
 {
     let modules = match modules_of_bytes(alloc, bytes) {

@@ -16,8 +16,8 @@ use crate::words::{Command, form_of};
 use anvil_io::{Shelf, Sink};
 use std::alloc::Global;
 
-/// Does what the words say: `check FILE` puts a line where a file keeps the timing rules, `compile FILE` puts the modules of a plain file's processes to `out`, in the order of the file, and
-/// `run FILE PROC STIM` the log of a process on the rows of a stimulus.
+/// Does what the words say: `check FILE` puts a line to `out` where a file keeps the timing rules, `compile FILE` then puts the modules
+/// of its processes, in the order of the file, and `run FILE PROC STIM` the log of a process on the rows of a stimulus.
 ///
 /// `words` leaves out the program's own name. The shelf is asked for the files of the form alone, so each has to be one that
 /// may be asked for. On every status but `Done`, `Breach` and `WriteFault` nothing is put to `out`, and on every one but `Done`

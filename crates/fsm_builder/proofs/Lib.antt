@@ -1,5 +1,2 @@
-mod WellFormedCounter
-mod CounterTurns
-mod CounterStates
-pub mod CounterShows
-mod Examples
+pub mod Drafting
+pub mod Built

@@ -1,7 +1,3 @@
--- What a module of a process shows of it: read this first.
+-- What a module has of its process, and the threads of a process as they are drawn.
 pub mod ModuleOf
-pub mod Meaning
-pub mod Digits
-pub mod Counting
--- What the functions promise each other.
-pub mod CounterTree
+pub mod Drafts

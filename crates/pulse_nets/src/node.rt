@@ -9,7 +9,7 @@ pub enum Shape {
     /// With its predecessor.
     Same(u32),
     /// So many cycles after its predecessor.
-    After(u16, u32),
+    After(u32, u32),
     /// In the first cycle from its predecessor on in which its wire is 1.
     Sync(u32),
     /// With the later of two that both come.

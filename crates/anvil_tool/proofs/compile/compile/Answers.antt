@@ -2,7 +2,7 @@
 use Rattle.std.proofs.Common.{inl, inr, refl}
 use Rattle.sv_tree.specs.Text.{modules_text}
 use Rattle.anvil_tool.specs.Refused.{refusal_line}
-use Rattle.anvil_tool.proofs.Plain.{line_told}
+use Rattle.anvil_tool.proofs.Ruled.{line_told}
 use Rattle.anvil_tool.proofs.Written.{output_of}
 use Rattle.anvil_tool.proofs.compile.compile.Goals as goal
 

@@ -3,6 +3,9 @@ use Rattle.std.proofs.Common.{arith}
 use Rattle.anvil_tool.proofs.Described.{module_more}
 use Rattle.anvil_tool.proofs.modules.modules_of.Goals as goal
 
-pub loop-counter-preserved : goal.loop-counter-preserved
-loop-counter-preserved c =
-    rw c.in_ok-push.ensures.items (module_more c.args.counters.now c.loop-counter.counter-index c.counter-item.result _ _ (omega arith) c.counter-item.is c.loop-counter.invariant c.in_ok-module_of.ensures)
+pub loop-proc-preserved : goal.loop-proc-preserved
+loop-proc-preserved c =
+    let built = c.in_ok-build.ensures in
+    rw c.in_ok-push.ensures.items
+    (module_more c.args.procs.now c.loop-proc.proc-index c.proc-item.result _ _ (omega arith) c.proc-item.is c.loop-proc.invariant
+    (record { well_formed = built.well_formed; parts = built.parts; means = built.means; bits = built.bits }))

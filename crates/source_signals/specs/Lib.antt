@@ -1,0 +1,2 @@
+-- The signals that threads read.
+pub mod Sources

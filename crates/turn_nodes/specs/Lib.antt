@@ -1,0 +1,2 @@
+-- The nodes of one turn.
+pub mod Laws

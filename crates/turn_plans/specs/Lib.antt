@@ -1,0 +1,3 @@
+-- What the code of a plan reads off a graph and a text.
+pub mod Read
+pub mod Wires
