@@ -8,6 +8,8 @@ mod check;
 #[cfg(test)]
 mod compile;
 #[cfg(test)]
+mod modules;
+#[cfg(test)]
 mod names;
 #[cfg(test)]
 mod refused;
