@@ -20,7 +20,8 @@ const COUNTER: &str = "proc c() { reg a : logic[8]; loop { set a := *a + 8'd1 >>
 const TOGETHER: &str = "proc c() { reg a : logic[8]; loop { set a := *a + 8'd1 ; cycle 2 } }";
 
 /// Accepted files, each with what it shows and how many modules it makes.
-const FILES: [(&str, &str, usize); 12] = [
+const FILES: [(&str, &str, usize); 14] = [
+    ("no bytes", "", 0),
     ("a set and a wait", COUNTER, 1),
     (
         "a set in each cycle",
@@ -29,6 +30,14 @@ const FILES: [(&str, &str, usize); 12] = [
     ),
     ("a set beside a wait", TOGETHER, 1),
     ("no process", "chan w { left m : (logic[64]@#1) }", 0),
+    (
+        "62 parentheses",
+        "proc d() { reg a : logic[8];
+  loop { set a :=
+((((((((((((((((((((((((((((((((((((((((((((((((((((((((((((((8'd1
+)))))))))))))))))))))))))))))))))))))))))))))))))))))))))))))) } }",
+        1,
+    ),
     (
         "an echo",
         "chan ch { left req : (logic[8]@res), right res : (logic[8]@#1) }
