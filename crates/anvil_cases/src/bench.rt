@@ -42,12 +42,25 @@ pub fn run_on(
     stimulus: &[u8],
     faults: Faults,
 ) -> Result<Ended, AllocError> {
+    run_beside(alloc, words, file, b"", stimulus, faults)
+}
+
+/// The same with a text of modules under the name `v`.
+pub fn run_beside(
+    alloc: Global,
+    words: &[&str],
+    file: &[u8],
+    text: &[u8],
+    stimulus: &[u8],
+    faults: Faults,
+) -> Result<Ended, AllocError> {
     let mut list = Vec::new(alloc);
     for word in words {
         list.push(String::from_str(alloc, word)?)?;
     }
     let mut files = Vec::new(alloc);
     files.push((String::from_str(alloc, "f")?, Vec::from_slice(alloc, file)?))?;
+    files.push((String::from_str(alloc, "v")?, Vec::from_slice(alloc, text)?))?;
     files.push((
         String::from_str(alloc, "s")?,
         Vec::from_slice(alloc, stimulus)?,

@@ -6,7 +6,8 @@ use std::test::Fail;
 
 const COUNTER: &[u8] = b"proc c() { reg a : logic[8]; loop { set a := *a + 8'd1 >> cycle 2 } }";
 
-const USAGE: &[u8] = b"usage: anvil check FILE | compile FILE | run FILE PROC STIM\n";
+const USAGE: &[u8] =
+    b"usage: anvil check FILE | compile FILE | run FILE PROC STIM | runsv FILE SV PROC STIM\n";
 
 /// What the module of a process of the name `c` without ports begins with.
 const HEADER: &[u8] = b"module anvil__c (\n  input logic clk_i,\n  input logic rst_ni\n);\n";
@@ -332,7 +333,7 @@ fn the_put_of_a_line_fails(rt: HostRuntime) -> Result<(), Fail> {
     assert_eq!(rt; usage.out.bytes(), b"".as_slice());
     assert_eq!(rt;
         usage.err.bytes(),
-        b"usage: anvil check FILE | comp".as_slice()
+        b"usage: anvil check FILE | compile FILE | ru".as_slice()
     );
     Ok(())
 }

@@ -15,3 +15,5 @@ mod names;
 mod refused;
 #[cfg(test)]
 mod run;
+#[cfg(test)]
+mod run_module;

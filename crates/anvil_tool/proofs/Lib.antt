@@ -1,20 +1,13 @@
--- The modules of the processes of a file.
+-- The modules of the processes of a file, and their text.
 pub mod Described
--- Which refusal bytes have, and that they have one at most.
-pub mod Checks
-pub mod Refusals
-pub mod OneRefusal
--- The process of a name, and the rows of a stimulus.
-pub mod Processes
+pub mod Written
+-- The rows of a stimulus, and that a run on them is one.
 pub mod Stimuli
 pub mod Runs
--- Files that break a timing rule.
-pub mod Ruled
--- The text of the modules.
-pub mod Written
--- The forms that load one file, and two; that at most one answer has its cause.
-pub mod OneFile
-pub mod OneRun
-pub mod OneAnswer
--- Examples.
-pub mod Examples
+-- That the stages of each command are exact, and that at most one answer has its cause.
+pub mod SourceRuns
+pub mod NamedModule
+pub mod ModuleRuns
+pub mod Exact
+-- That a text that was compiled has the logs of its file.
+pub mod SameLog

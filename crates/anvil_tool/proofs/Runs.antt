@@ -1,38 +1,26 @@
--- A run is one.
+-- A run on a stimulus is one.
 --
--- The claim: of a file, a name and a stimulus there is one run at most, so its first broken promise is one, and so is what is told of
--- it; and a stimulus that is refused has no run. The argument: the process is one and its rows are one.
+-- The claim: of a stimulus there are rows at most once, but for what they are beside their cells, so what is seen of a run on them is
+-- one, and so are its first broken promise and what is told of it.
 use Rattle.std.proofs.Common.{◌≡◌, ◌∙◌, inl, inr, ℕ, ◌<◌, List, length, map, ap, sym, subst}
+use Rattle.std.specs.Prelude.{IsTrue}
+use Rattle.std.specs.List.{list_all}
 use Rattle.std.proofs.lemmas.Bool.{cases_order}
 use Rattle.core_term.specs.declared.rows.Row.{Row}
 use Rattle.core_term.specs.Breach.{IsFirstBreach}
-use Rattle.core_term.specs.History.{history}
-use Rattle.core_term.specs.Inputs.{Inputs}
-use Rattle.core_term.specs.LogText.{log_text}
-use Rattle.core_term.specs.Outputs.{wires}
 use Rattle.core_term.specs.Process.{Process, nth_port}
+use Rattle.core_term.specs.Sized.{port_fits}
 use Rattle.core_term.specs.Wires.{Wires}
 use Rattle.stim_text.specs.Answers.{cells_of, AreRowsOf}
-use Rattle.source_log.specs.Log.{log_to, wires_on, IsKeptTo}
-use Rattle.anvil_tool.specs.declared.refusal.Refusal.{Refusal}
-use Rattle.anvil_tool.specs.Run.{IsProcessOf, HasRun, IsTextRefused, IsStimulusRefused, IsBrokenLog, breach_line}
-use Rattle.anvil_tool.specs.Running.{StopsAt}
-use Rattle.anvil_tool.proofs.Processes.{same_process, ports_fit}
-use Rattle.anvil_tool.proofs.Stimuli.{rows_or_refused, stimulus_refused_once, rows_once, same_inputs}
+use Rattle.run_log.specs.Shown.{Shown}
+use Rattle.run_log.specs.Log.{IsKeptTo, log_to}
+use Rattle.anvil_tool.specs.Logs.{IsBrokenLog, breach_line}
+use Rattle.anvil_tool.proofs.Stimuli.{rows_once}
 
--- Refusals of a stimulus.
-
-pub text_refused_once : (bytes name text : List ℕ) (one other : Refusal) → IsTextRefused bytes name text one → IsTextRefused bytes name text other → one ≡ other
-text_refused_once bytes name text one other first second =
-    let same = same_process bytes name second.process first.process second.of_file first.of_file in
-    stimulus_refused_once first.process.ports text (ports_fit bytes name first.process first.of_file) one other first.refused
-    (subst (λ (p : Process). IsStimulusRefused p.ports text other) same second.refused)
-
-pub run_or_refused : (bytes name text : List ℕ) (refusal : Refusal) → IsTextRefused bytes name text refusal → HasRun bytes name text → ⊥
-run_or_refused bytes name text refusal refused run =
-    let same = same_process bytes name run.process refused.process run.is.of_file refused.of_file in
-    rows_or_refused refused.process.ports text (ports_fit bytes name refused.process refused.of_file) run.rows refusal
-    (subst (λ (p : Process). AreRowsOf p.ports text run.rows) same run.is.of_text) refused.refused
+-- what is seen of a run depends on the cells of the rows alone, and has a cycle for each row
+pub record IsRun (shown : List Row → Shown) : Type 0 where
+  pub alike : (rows others : List Row) → map cells_of rows ≡ map cells_of others → shown rows ≡ shown others
+  pub count : (rows : List Row) → (shown rows).wires.count ≡ length rows
 
 -- The first broken promise.
 
@@ -43,59 +31,39 @@ module _ (p : Process) (seen : Wires) where
   lower : (cycle port next : ℕ) → IsFirstBreach p seen cycle port → IsFirstBreach p seen cycle next → port < next → ⊥
   lower cycle port next first second less = first.broken (second.first port less first.received)
 
-  same_cycle : (cycle other port next : ℕ) → IsFirstBreach p seen cycle port → IsFirstBreach p seen other next → cycle ≡ other
+  pub same_cycle : (cycle other port next : ℕ) → IsFirstBreach p seen cycle port → IsFirstBreach p seen other next → cycle ≡ other
   same_cycle cycle other port next first second = elim (cases_order cycle other) [
     | inl same ↦ same
     | inr (inl less) ↦ absurd (earlier cycle other port next first second less)
     | inr (inr more) ↦ absurd (earlier other cycle next port second first more)
   ]
 
-  same_port : (cycle port next : ℕ) → IsFirstBreach p seen cycle port → IsFirstBreach p seen cycle next → port ≡ next
+  pub same_port : (cycle port next : ℕ) → IsFirstBreach p seen cycle port → IsFirstBreach p seen cycle next → port ≡ next
   same_port cycle port next first second = elim (cases_order port next) [
     | inl same ↦ same
     | inr (inl less) ↦ absurd (lower cycle port next first second less)
     | inr (inr more) ↦ absurd (lower cycle next port second first more)
   ]
 
-abbrev wires_by : Process → Inputs → Wires
-wires_by p inputs = wires p inputs (history p inputs)
+module _ (p : Process) (shown : List Row → Shown) (run : IsRun shown) (stimulus : List ℕ) (widths : IsTrue (list_all port_fits p.ports)) where
+  same_shown : (rows others : List Row) → AreRowsOf p.ports stimulus rows → AreRowsOf p.ports stimulus others → shown rows ≡ shown others
+  same_shown rows others are are_too = run.alike rows others (rows_once p.ports stimulus widths rows others are are_too)
 
-abbrev text_by : Process → ℕ → Inputs → List ℕ
-text_by p cycle inputs = log_text p (wires p inputs (history p inputs)) (history p inputs) 0 cycle
+  pub broken_once : (text other line said : List ℕ) → IsBrokenLog p shown stimulus text line → IsBrokenLog p shown stimulus other said → (text ≡ other) × (line ≡ said)
+  broken_once text other line said one two =
+      let same = same_shown one.rows two.rows one.are two.are in
+      let second : IsFirstBreach p (shown one.rows).wires two.cycle two.port = subst (λ (seen : Shown). IsFirstBreach p seen.wires two.cycle two.port) (sym same) two.first in
+      let cycle = same_cycle p (shown one.rows).wires one.cycle two.cycle one.port two.port one.first second in
+      let at_cycle : IsFirstBreach p (shown one.rows).wires one.cycle two.port = subst (λ t. IsFirstBreach p (shown one.rows).wires t two.port) (sym cycle) second in
+      let port = same_port p (shown one.rows).wires one.cycle one.port two.port one.first at_cycle in (
+        one.is ∙ (ap (λ seen. log_to p seen one.cycle) same ∙ (ap (log_to p (shown two.rows)) cycle ∙ sym two.is)),
+        one.told ∙ (ap (λ t. breach_line t (nth_port p.ports one.port)) cycle ∙ (ap (λ m. breach_line two.cycle (nth_port p.ports m)) port ∙ sym two.told)),
+      )
 
--- of one process on one text
-pub stops_once : (p : Process) (text whole other line said : List ℕ) → ((rows others : List Row) → AreRowsOf p.ports text rows → AreRowsOf p.ports text others → map cells_of rows ≡ map cells_of others)
-    → StopsAt p text whole line → StopsAt p text other said → (whole ≡ other) × (line ≡ said)
-stops_once p text whole other line said rows_once one two =
-    let inputs = same_inputs one.rows two.rows (rows_once one.rows two.rows one.are two.are) in
-    let second : IsFirstBreach p (wires_on p one.rows) two.cycle two.port = subst (λ seen. IsFirstBreach p seen two.cycle two.port) (sym (ap (wires_by p) inputs)) two.first in
-    let cycle = same_cycle p (wires_on p one.rows) one.cycle two.cycle one.port two.port one.first second in
-    let at_cycle : IsFirstBreach p (wires_on p one.rows) one.cycle two.port = subst (λ t. IsFirstBreach p (wires_on p one.rows) t two.port) (sym cycle) second in
-    let port = same_port p (wires_on p one.rows) one.cycle one.port two.port one.first at_cycle in (
-      one.is ∙ (ap (text_by p one.cycle) inputs ∙ (ap (log_to p two.rows) cycle ∙ sym two.is)),
-      one.told ∙ (ap (λ t. breach_line t (nth_port p.ports one.port)) cycle ∙ (ap (λ m. breach_line two.cycle (nth_port p.ports m)) port ∙ sym two.told)),
-    )
-
--- what a broken log of a file, a name and a stimulus says of the process
-pub stops_of : (bytes name stimulus text line : List ℕ) (p : Process) → IsProcessOf bytes name p → IsBrokenLog bytes name stimulus text line → StopsAt p stimulus text line
-stops_of bytes name stimulus text line p is broken =
-    let same = same_process bytes name broken.run.process p broken.run.is.of_file is in
-    subst (λ q. StopsAt q stimulus text line) same
-    (record { rows = broken.run.rows; are = broken.run.is.of_text; cycle = broken.cycle; port = broken.port; first = broken.first; is = broken.is; told = broken.told })
-
-pub broken_once : (bytes name stimulus text other line said : List ℕ) → IsBrokenLog bytes name stimulus text line → IsBrokenLog bytes name stimulus other said → (text ≡ other) × (line ≡ said)
-broken_once bytes name stimulus text other line said one two =
-    let p = one.run.process in
-    stops_once p stimulus text other line said (rows_once p.ports stimulus (ports_fit bytes name p one.run.is.of_file))
-    (stops_of bytes name stimulus text line p one.run.is.of_file one) (stops_of bytes name stimulus other said p one.run.is.of_file two)
-
--- The same seen from the rows that were read.
-
-pub first_at : (p : Process) (text whole line : List ℕ) (rows : List Row) → ((one others : List Row) → AreRowsOf p.ports text one → AreRowsOf p.ports text others → map cells_of one ≡ map cells_of others)
-    → AreRowsOf p.ports text rows → (stops : StopsAt p text whole line) → IsFirstBreach p (wires_on p rows) stops.cycle stops.port
-first_at p text whole line rows once are stops =
-    subst (λ seen. IsFirstBreach p seen stops.cycle stops.port) (ap (wires_by p) (same_inputs stops.rows rows (once stops.rows rows stops.are are))) stops.first
-
--- where every promise is kept none is the first that is broken
-pub kept_or_broken : (p : Process) (rows : List Row) (cycle port : ℕ) → IsKeptTo p rows (length rows) → IsFirstBreach p (wires_on p rows) cycle port → ⊥
-kept_or_broken p rows cycle port kept first = first.broken (kept cycle first.within port first.received)
+  -- where every promise is kept none is the first that is broken
+  pub kept_or_broken : (rows : List Row) → AreRowsOf p.ports stimulus rows → IsKeptTo p (shown rows) (length rows) → (text line : List ℕ) → IsBrokenLog p shown stimulus text line → ⊥
+  kept_or_broken rows are kept text line broken =
+      let same = same_shown broken.rows rows broken.are are in
+      let first : IsFirstBreach p (shown rows).wires broken.cycle broken.port = subst (λ (seen : Shown). IsFirstBreach p seen.wires broken.cycle broken.port) same broken.first in
+      let within : broken.cycle < length rows = subst (λ n. broken.cycle < n) (run.count rows) first.within in
+      first.broken (kept broken.cycle within broken.port first.received)

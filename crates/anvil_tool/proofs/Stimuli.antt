@@ -16,10 +16,10 @@ use Rattle.core_term.specs.StimulusText.{IsStimulus, last_piece, by_feed, by_ret
 use Rattle.stim_text.specs.Answers.{cells_of, AreRowsOf, IsFirstBadLine}
 use Rattle.stim_text.specs.OneStimulus.{HasOneAnswer}
 use Rattle.stim_text.proofs.OneStimulus.{stimuli_have_one_answer}
-use Rattle.anvil_tool.specs.declared.refusal.Code.TheVariants as code
-use Rattle.anvil_tool.specs.declared.refusal.Refusal.{Refusal}
-use Rattle.anvil_tool.specs.declared.refusal.Refusal.TheVariants.{Lined}
-use Rattle.anvil_tool.specs.Run.{IsStimulusRefused, bad_line, too_many}
+use Rattle.tool_answers.specs.declared.refusal.Code.TheVariants as code
+use Rattle.tool_answers.specs.declared.refusal.Refusal.{Refusal}
+use Rattle.tool_answers.specs.declared.refusal.Refusal.TheVariants.{Lined}
+use Rattle.anvil_tool.specs.Logs.{IsStimulusRefused, bad_line, too_many}
 
 -- Rows fit the ports.
 

@@ -16,8 +16,8 @@ use Rattle.core_term.specs.Process.{Process}
 use Rattle.sv_tree.specs.Module.{Module}
 use Rattle.sv_tree.specs.WellFormed.{is_well_formed, has_no_twice}
 use Rattle.sv_tree.specs.Text.{modules_text}
-use Rattle.anvil_tool.specs.Check.{processes_in}
-use Rattle.anvil_tool.specs.FileText.{IsChecked}
+use Rattle.checked_files.specs.Check.{processes_in}
+use Rattle.checked_files.specs.FileText.{IsChecked}
 use Rattle.anvil_tool.specs.Output.{AreModules, AreModulesOf, IsOutput}
 
 both : (one other : Bool) → IsTrue one → IsTrue other → IsTrue (one && other)

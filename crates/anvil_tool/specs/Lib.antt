@@ -1,15 +1,9 @@
--- What the words are, which bytes spell a file, what its modules are, why it has none, what a command's stages do, and
--- what each answer tells: read in this order.
-pub mod Form
-pub mod Seen
-pub mod FileText
+-- What is written for a file, the log of a run, what `run` and `runsv` write, the stages of each command, and the laws:
+-- read in this order.
 pub mod Output
-pub mod Refused
+pub mod Logs
 pub mod Run
-pub mod Check
-pub mod Ruled
+pub mod RunModule
 pub mod Stages
-pub mod Answer
-pub mod Running
-pub mod Status
 pub mod Laws
+pub mod SameLog

@@ -1,24 +1,23 @@
--- What a command does with the bytes of the files that it loads.
---
--- A form has one stage more than it has files. A stage has loaded the first so many of them, none at first: it
--- refuses their bytes, or goes on, to the load of the next file, and behind the last one to the output. The bytes are
--- listed in the order of the loads.
-use Rattle.std.specs.Prelude.{ℕ, List, [], ◌∷◌}
-use Rattle.anvil_tool.specs.declared.refusal.Refusal.{Refusal}
-use Rattle.anvil_tool.specs.Form.{Command, check, compile, run, Form}
+-- The stages of each command: what they say of the bytes that they have.
+use Rattle.std.specs.Prelude.{◌≡◌, ◌⊎◌, ℕ, List, [], ◌∷◌, codes, Option, Some, None}
+use Rattle.command_words.specs.Form.{Command, check, compile, run, runsv, Form, loads_of, usage_line}
+use Rattle.tool_answers.specs.declared.refusal.Refusal.{Refusal}
+use Rattle.tool_answers.specs.Stages.{Stage, Stages}
+use Rattle.tool_answers.specs.Lines.{no_memory_line}
+use Rattle.tool_answers.specs.Answer.{IsLine}
+use Rattle.checked_files.specs.Check.{IsAcceptedText, IsCheckRefused}
+use Rattle.checked_files.specs.Named.{HasProcess, IsProcessRefused}
 use Rattle.anvil_tool.specs.Output.{IsOutput}
-use Rattle.anvil_tool.specs.Check.{IsCheckRefused, IsAcceptedText, IsAcceptedLine}
-use Rattle.anvil_tool.specs.Run.{IsProcessRefused, IsTextRefused, HasProcess, HasRun, IsLog, IsLogFront, IsBrokenLog}
-
--- what the stages of a command say of the bytes that they have
-pub record Stages : Type 1 where
-  pub refuses : List (List ℕ) → Refusal → Type 0
-  pub goes_on : List (List ℕ) → Type 0
-  -- behind the last stage: the text that is written, and a text with which it begins
-  pub writes : List (List ℕ) → List ℕ → Type 0
-  pub begins : List (List ℕ) → List ℕ → Type 0
-  -- a text that stops early, at a promise that is broken, and the line that says so
-  pub breaks : List (List ℕ) → List ℕ → List ℕ → Type 0
+use Rattle.anvil_tool.specs.Run.{HasRun, IsBrokenRun, IsRunFront, IsRunLog, IsTextRefused}
+use Rattle.anvil_tool.specs.RunModule.{
+  HasModule,
+  HasModuleRun,
+  IsBrokenModule,
+  IsModuleFront,
+  IsModuleLog,
+  IsModuleTextRefused,
+  IsSvRefused,
+}
 
 -- `check` and `compile`: FILE keeps the timing rules, or is refused. What is written for it is their own.
 
@@ -46,6 +45,11 @@ file_stages output = record {
   breaks = λ loaded text line. ⊥;
 }
 
+-- what `check` writes for an accepted file
+pub record IsAcceptedLine (bytes text : List ℕ) : Type 0 where
+  pub accepted : IsAcceptedText bytes
+  pub is : text ≡ codes "accepted\n"
+
 -- `run`: FILE has a process of the name, then STIM has rows for it.
 
 abbrev pub run_refuses : List ℕ → List (List ℕ) → Refusal → Type 0
@@ -60,41 +64,78 @@ run_goes_on name (file ∷ []) = HasProcess file name
 run_goes_on name (file ∷ stimulus ∷ []) = HasRun file name stimulus
 run_goes_on name (file ∷ stimulus ∷ other ∷ more) = ⊥
 
-abbrev pub run_writes : List ℕ → List (List ℕ) → List ℕ → Type 0
-run_writes name [] text = ⊥
-run_writes name (file ∷ []) text = ⊥
-run_writes name (file ∷ stimulus ∷ []) text = IsLog file name stimulus text
-run_writes name (file ∷ stimulus ∷ other ∷ more) text = ⊥
+-- behind the last stage
+abbrev pub run_texts : (texts : (file stimulus : List ℕ) → Type 0) → List (List ℕ) → Type 0
+run_texts texts [] = ⊥
+run_texts texts (file ∷ []) = ⊥
+run_texts texts (file ∷ stimulus ∷ []) = texts file stimulus
+run_texts texts (file ∷ stimulus ∷ other ∷ more) = ⊥
 
-abbrev pub run_begins : List ℕ → List (List ℕ) → List ℕ → Type 0
-run_begins name [] text = ⊥
-run_begins name (file ∷ []) text = ⊥
-run_begins name (file ∷ stimulus ∷ []) text = IsLogFront file name stimulus text
-run_begins name (file ∷ stimulus ∷ other ∷ more) text = ⊥
+abbrev pub run_stages : List ℕ → Stages
+run_stages name = record {
+  refuses = run_refuses name;
+  goes_on = run_goes_on name;
+  writes = λ loaded text. run_texts (λ file stimulus. IsRunLog file name stimulus text) loaded;
+  begins = λ loaded text. run_texts (λ file stimulus. IsRunFront file name stimulus text) loaded;
+  breaks = λ loaded text line. run_texts (λ file stimulus. IsBrokenRun file name stimulus text line) loaded;
+}
 
-abbrev pub run_breaks : List ℕ → List (List ℕ) → List ℕ → List ℕ → Type 0
-run_breaks name [] text line = ⊥
-run_breaks name (file ∷ []) text line = ⊥
-run_breaks name (file ∷ stimulus ∷ []) text line = IsBrokenLog file name stimulus text line
-run_breaks name (file ∷ stimulus ∷ other ∷ more) text line = ⊥
+-- `runsv`: FILE has a process of the name, then SV a module of it, then STIM has rows for it.
 
--- the name stands between the two files
-abbrev pub name_in : List (List ℕ) → List ℕ
-name_in [] = []
-name_in (file ∷ []) = []
-name_in (file ∷ name ∷ more) = name
+abbrev pub module_refuses : List ℕ → List (List ℕ) → Refusal → Type 0
+module_refuses name [] refusal = ⊥
+module_refuses name (file ∷ []) refusal = IsProcessRefused file name refusal
+module_refuses name (file ∷ text ∷ []) refusal = IsSvRefused file text name refusal
+module_refuses name (file ∷ text ∷ stimulus ∷ []) refusal = IsModuleTextRefused file text name stimulus refusal
+module_refuses name (file ∷ text ∷ stimulus ∷ other ∷ more) refusal = ⊥
+
+abbrev pub module_goes_on : List ℕ → List (List ℕ) → Type 0
+module_goes_on name [] = Unit {0}
+module_goes_on name (file ∷ []) = HasProcess file name
+module_goes_on name (file ∷ text ∷ []) = HasModule file text name
+module_goes_on name (file ∷ text ∷ stimulus ∷ []) = HasModuleRun file text name stimulus
+module_goes_on name (file ∷ text ∷ stimulus ∷ other ∷ more) = ⊥
+
+abbrev pub module_texts : (texts : (file text stimulus : List ℕ) → Type 0) → List (List ℕ) → Type 0
+module_texts texts [] = ⊥
+module_texts texts (file ∷ []) = ⊥
+module_texts texts (file ∷ text ∷ []) = ⊥
+module_texts texts (file ∷ text ∷ stimulus ∷ []) = texts file text stimulus
+module_texts texts (file ∷ text ∷ stimulus ∷ other ∷ more) = ⊥
+
+abbrev pub module_stages : List ℕ → Stages
+module_stages name = record {
+  refuses = module_refuses name;
+  goes_on = module_goes_on name;
+  writes = λ loaded log. module_texts (λ file text stimulus. IsModuleLog file text name stimulus log) loaded;
+  begins = λ loaded log. module_texts (λ file text stimulus. IsModuleFront file text name stimulus log) loaded;
+  breaks = λ loaded log line.
+      module_texts (λ file text stimulus. IsBrokenModule file text name stimulus log line) loaded;
+}
 
 -- The stages of each command, which may ask for the words of the form too.
+
+-- the word of the number, from 0
+abbrev pub second_of : List (List ℕ) → List ℕ
+second_of [] = []
+second_of (first ∷ []) = []
+second_of (first ∷ second ∷ more) = second
+
+abbrev pub third_of : List (List ℕ) → List ℕ
+third_of [] = []
+third_of (first ∷ more) = second_of more
+
 abbrev pub stages_by : Command → List (List ℕ) → Stages
 stages_by check operands = file_stages IsAcceptedLine
 stages_by compile operands = file_stages IsOutput
-stages_by run operands = record {
-  refuses = run_refuses (name_in operands);
-  goes_on = run_goes_on (name_in operands);
-  writes = run_writes (name_in operands);
-  begins = run_begins (name_in operands);
-  breaks = run_breaks (name_in operands);
-}
+stages_by run operands = run_stages (second_of operands)
+stages_by runsv operands = module_stages (third_of operands)
 
-abbrev pub stages_of : Form → Stages
-stages_of form = stages_by form.command form.operands
+-- where a form begins: nothing is loaded yet
+abbrev pub start_of : Form → Stage
+start_of form = record { of = stages_by form.command form.operands; loaded = []; loads = loads_of form }
+
+-- a line that some answer has, where the words have a form and where they have none
+abbrev pub IsLineFor : (List ℕ → Option (List ℕ)) → Option Form → List ℕ → Type 0
+IsLineFor told None line = (line ≡ usage_line) ⊎ (line ≡ no_memory_line)
+IsLineFor told (Some form) line = IsLine told (start_of form) line

@@ -6,20 +6,17 @@
 
 mod check;
 mod compile;
-mod complain;
-mod front;
 mod laws;
+mod limits;
+mod logs;
+mod module_text;
 mod modules;
-mod process;
-mod refusal;
-mod rules;
 mod run;
-mod status;
+mod run_module;
 mod stimulus;
 mod tool;
-mod words;
 
 pub use anvil_io::{FsShelf, LoadErr, MemShelf, MemSink, Shelf, Sink, SinkFault, StdSink};
-pub use laws::has_one_answer;
-pub use status::Status;
+pub use laws::{has_one_answer, logs_are_one};
 pub use tool::run_tool;
+pub use tool_answers::Status;

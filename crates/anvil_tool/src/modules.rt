@@ -1,13 +1,13 @@
 //! The modules of the processes of an accepted file.
 ghost use Rattle.std.specs.Prelude.{◌≡◌, ◌≢◌, ◌⊎◌, ◌≤◌, ◌^◌, length, IfErr, IfOk, MatchResult};
 ghost use Rattle.core_term.specs.AcceptedFile.{file_of};
-ghost use Rattle.anvil_tool.specs.Check.{IsAcceptedText, IsCheckRefused};
+ghost use Rattle.checked_files.specs.Check.{IsAcceptedText, IsCheckRefused};
 ghost use Rattle.anvil_tool.specs.Output.{AreModules, AreModulesOf};
 
-use crate::refusal::Refusal;
-use crate::rules::accepted_of_bytes;
+use checked_files::accepted_of_bytes;
 use fsm_builder::{CoreProc, SvModule, build};
 use std::alloc::{AllocError, Global};
+use tool_answers::Refusal;
 
 // The modules of processes, in their order.
 fn modules_of(alloc: Global, procs: &[CoreProc]) -> Result<Vec<SvModule>, AllocError>

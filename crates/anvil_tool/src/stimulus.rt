@@ -5,12 +5,12 @@ ghost use Rattle.core_term.specs.declared.rows.Row.{Row as RowSeen};
 ghost use Rattle.core_term.specs.ProcessView.{port_of};
 ghost use Rattle.core_term.specs.Rows.{row_fits};
 ghost use Rattle.stim_text.specs.Answers.{AreRowsOf, most_rows};
-ghost use Rattle.anvil_tool.specs.Run.{IsStimulusRefused};
+ghost use Rattle.anvil_tool.specs.Logs.{IsStimulusRefused};
 
-use crate::refusal::{Code, Refusal};
 use core_term::{CoreProc, Row};
 use std::alloc::Global;
 use stim_text::{StimErr, read_stim};
+use tool_answers::{Code, Refusal};
 
 /// The rows of the text for a process, or why it has none.
 pub(crate) fn rows_of_text(alloc: Global, proc: &CoreProc, text: &[u8]) -> Result<Vec<Row>, Refusal>

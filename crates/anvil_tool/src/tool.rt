@@ -1,23 +1,27 @@
 //! The top call.
-ghost use Rattle.std.specs.Prelude.{◌≡◌, ◌≢◌, ◌⊎◌, ◌≤◌, ◌<◌, ◌-◌, ◌^◌, List, ℕ, [], length, IfSome, IsNone};
+ghost use Rattle.std.specs.Prelude.{◌≡◌, ◌≢◌, ◌⊎◌, ◌<◌, List, ℕ, IfSome, IsNone};
 ghost use Rattle.std.specs.Io.KnownBytes.{Appends};
 ghost use Rattle.anvil_io.specs.Causes.{Rose};
-ghost use Rattle.anvil_tool.specs.declared.refusal.Refusal.{Refusal};
-ghost use Rattle.anvil_tool.specs.Answer.{Breaks, BreachFailed, Ends, HasNoFault, IsBreach, IsFirstRefusal, IsLine, IsReadFault, IsRefusedBy, IsTooLong, IsUntouched, IsWritten, LineFailed, OutFailed, Overflows, Tells};
-ghost use Rattle.anvil_tool.specs.Form.{Form, MayLoad, form_of, usage_line, words_of};
-ghost use Rattle.anvil_tool.specs.Refused.{IsLineOf, no_memory_line, refusal_line};
+ghost use Rattle.command_words.specs.Form.{Form, MayLoad, form_of, usage_line, words_of};
+ghost use Rattle.command_words.specs.Seen.{form_seen};
+ghost use Rattle.tool_answers.specs.declared.refusal.Refusal.{Refusal};
+ghost use Rattle.tool_answers.specs.Answer.{Breaks, BreachFailed, Ends, HasNoFault, IsBreach, IsFirstRefusal, IsReadFault, IsRefusedBy, IsTooLong, IsUntouched, IsWritten, LineFailed, OutFailed, Overflows, Tells};
+ghost use Rattle.tool_answers.specs.Answered.{Answered, shelf_seen, sink_seen};
+ghost use Rattle.tool_answers.specs.Lines.{IsLineOf, no_memory_line, refusal_line};
+ghost use Rattle.anvil_tool.specs.Stages.{IsLineFor, start_of};
 
 use crate::check::check_file;
 use crate::compile::compile_file;
-use crate::complain::complain;
 use crate::run::run_file;
-use crate::status::Status;
-use crate::words::{Command, form_of};
+use crate::run_module::{ModuleRun, run_module_file};
 use anvil_io::{Shelf, Sink};
+use command_words::{Command, form_of, usage};
 use std::alloc::Global;
+use tool_answers::{Status, complain_memory, complain_usage};
 
 /// Does what the words say: `check FILE` puts a line to `out` where a file keeps the timing rules, `compile FILE` then puts the modules
-/// of its processes, in the order of the file, and `run FILE PROC STIM` the log of a process on the rows of a stimulus.
+/// of its processes, in the order of the file, `run FILE PROC STIM` the log of a process on the rows of a stimulus, and
+/// `runsv FILE SV PROC STIM` that of its module in a text of modules.
 ///
 /// `words` leaves out the program's own name. The shelf is asked for the files of the form alone, so each has to be one that
 /// may be asked for. On every status but `Done`, `Breach` and `WriteFault` nothing is put to `out`, and on every one but `Done`
@@ -33,7 +37,8 @@ pub fn run_tool<S: Shelf, O: Sink, E: Sink>(
 
     // The words have no form, which is told before anything is loaded.
     ensures usage { result ≡ Status.Usage → IsNone (form_of (words_of words.now)) }
-    ensures no_form { IsNone (form_of (words_of words.now)) → (result ≡ Status.Usage) ⊎ (result ≡ Status.WriteFault) }
+    ensures no_form { IsNone (form_of (words_of words.now))
+        → (result ≡ Status.Usage) ⊎ (result ≡ Status.NoMemory) ⊎ (result ≡ Status.WriteFault) }
     ensures not_asked { IsNone (form_of (words_of words.now)) → S.faults shelf.new ≡ S.faults shelf.old }
     ensures usage_line { result ≡ Status.Usage → Appends (E.held err.old) (E.held err.new) usage_line }
 
@@ -42,21 +47,22 @@ pub fn run_tool<S: Shelf, O: Sink, E: Sink>(
     ensures fault_read { S.faults shelf.old < S.faults shelf.new → (result ≡ Status.ReadFault)
         ⊎ (result ≡ Status.WriteFault) }
     ensures read_fault_line { result ≡ Status.ReadFault → IfSome (form_of (words_of words.now)) (λ form.
-        IsReadFault (S.told shelf.old) form (E.held err.old) (E.held err.new)) }
+        IsReadFault (S.told shelf.old) (start_of form) (E.held err.old) (E.held err.new)) }
 
     // A file that was asked for has more bytes than its limit. The line on `err` names it.
     ensures too_long { result ≡ Status.TooLong → IfSome (form_of (words_of words.now)) (λ form.
-        IsTooLong (S.told shelf.old) form (S.taken shelf.old) (S.taken shelf.new) (E.held err.old) (E.held err.new)) }
+        IsTooLong (S.told shelf.old) (start_of form) (S.taken shelf.old) (S.taken shelf.new) (E.held err.old)
+        (E.held err.new)) }
     ensures every_length { IfSome (form_of (words_of words.now)) (λ form. (loaded : List (List ℕ))
-        → Overflows (S.told shelf.old) form loaded → HasNoFault (S.faults shelf.old) (S.faults shelf.new)
-        → (result ≡ Status.TooLong) ⊎ (result ≡ Status.WriteFault)
-        ⊎ ((result ≡ Status.NoMemory) × (0 < length loaded))) }
+        → Overflows (S.told shelf.old) (start_of form) loaded → HasNoFault (S.faults shelf.old) (S.faults shelf.new)
+        → (result ≡ Status.TooLong) ⊎ (result ≡ Status.WriteFault) ⊎ (result ≡ Status.NoMemory)) }
 
     // A stage refuses what was loaded. The line on `err` says why and where.
     ensures refused { result ≡ Status.Refused → IfSome (form_of (words_of words.now)) (λ form.
-        IsRefusedBy (S.told shelf.old) form (E.held err.old) (E.held err.new)) }
+        IsRefusedBy (S.told shelf.old) (start_of form) (E.held err.old) (E.held err.new)) }
     ensures every_refusal { IfSome (form_of (words_of words.now)) (λ form. (refusal : Refusal)
-        → IsFirstRefusal (Tells (S.told shelf.old)) form refusal → HasNoFault (S.faults shelf.old) (S.faults shelf.new)
+        → IsFirstRefusal (Tells (S.told shelf.old)) (start_of form) refusal
+        → HasNoFault (S.faults shelf.old) (S.faults shelf.new)
         → ((result ≡ Status.Refused) × Appends (E.held err.old) (E.held err.new) (refusal_line refusal))
         ⊎ (result ≡ Status.NoMemory)
         ⊎ ((result ≡ Status.WriteFault)
@@ -65,15 +71,16 @@ pub fn run_tool<S: Shelf, O: Sink, E: Sink>(
 
     // No stage refuses: the text stands on `out`, and nothing was put to `err`.
     ensures done { result ≡ Status.Done → IfSome (form_of (words_of words.now)) (λ form.
-        IsWritten (S.told shelf.old) form (O.held out.old) (O.held out.new)) }
+        IsWritten (S.told shelf.old) (start_of form) (O.held out.old) (O.held out.new)) }
     ensures quiet { result ≡ Status.Done
         → IsUntouched (E.held err.old) (E.held err.new) (E.faults err.old) (E.faults err.new) }
 
     // The text stops at a broken promise. The line on `err` says where.
     ensures breach { result ≡ Status.Breach → IfSome (form_of (words_of words.now)) (λ form.
-        IsBreach (S.told shelf.old) form (O.held out.old) (O.held out.new) (E.held err.old) (E.held err.new)) }
+        IsBreach (S.told shelf.old) (start_of form) (O.held out.old) (O.held out.new) (E.held err.old)
+        (E.held err.new)) }
     ensures every_breach { IfSome (form_of (words_of words.now)) (λ form. (text line : List ℕ)
-        → Breaks (Tells (S.told shelf.old)) form text line
+        → Breaks (Tells (S.told shelf.old)) (start_of form) text line
         → HasNoFault (S.faults shelf.old) (S.faults shelf.new)
         → HasNoFault (O.faults out.old) (O.faults out.new)
         → HasNoFault (E.faults err.old) (E.faults err.new)
@@ -91,39 +98,69 @@ pub fn run_tool<S: Shelf, O: Sink, E: Sink>(
     // A put failed, and nothing was put after it.
     ensures write_fault { result ≡ Status.WriteFault →
         ((form : Form) × (form_of (words_of words.now) ≡ Some form)
-        × OutFailed (S.told shelf.old) form (O.held out.old) (O.held out.new) (O.faults out.old) (O.faults out.new)
+        × OutFailed (S.told shelf.old) (start_of form) (O.held out.old) (O.held out.new) (O.faults out.old)
+        (O.faults out.new)
         × IsUntouched (E.held err.old) (E.held err.new) (E.faults err.old) (E.faults err.new))
         ⊎ (IsUntouched (O.held out.old) (O.held out.new) (O.faults out.old) (O.faults out.new)
-        × LineFailed (IsLine (S.told shelf.old) (form_of (words_of words.now))) (E.held err.old) (E.held err.new)
+        × LineFailed (IsLineFor (S.told shelf.old) (form_of (words_of words.now))) (E.held err.old) (E.held err.new)
         (E.faults err.old) (E.faults err.new))
         ⊎ ((form : Form) × (form_of (words_of words.now) ≡ Some form)
-        × BreachFailed (S.told shelf.old) form (O.held out.old) (O.held out.new) (O.faults out.old) (O.faults out.new)
-        (E.held err.old) (E.held err.new) (E.faults err.old) (E.faults err.new)) }
+        × BreachFailed (S.told shelf.old) (start_of form) (O.held out.old) (O.held out.new) (O.faults out.old)
+        (O.faults out.new) (E.held err.old) (E.held err.new) (E.faults err.old) (E.faults err.new)) }
     ensures out_fault { O.faults out.old < O.faults out.new → result ≡ Status.WriteFault }
     ensures err_fault { E.faults err.old < E.faults err.new → result ≡ Status.WriteFault }
 
     // Where nothing stands against it, the text is put, or no memory was found.
     ensures complete { IfSome (form_of (words_of words.now)) (λ form. (loaded : List (List ℕ))
-        → Ends (Tells (S.told shelf.old)) form loaded
+        → Ends (Tells (S.told shelf.old)) (start_of form) loaded
         → HasNoFault (S.faults shelf.old) (S.faults shelf.new)
         → HasNoFault (O.faults out.old) (O.faults out.new)
         → HasNoFault (E.faults err.old) (E.faults err.new)
         → (result ≡ Status.Done) ⊎ (result ≡ Status.NoMemory)) }
 {
-    match form_of(words) {
-        Some(Command::Check { file }) => check_file(alloc, file, shelf, out, err),
-        Some(Command::Compile { file }) => compile_file(alloc, file, shelf, out, err),
-        Some(
-            Command::Run {
+    match form_of(alloc, words) {
+        Ok(Some(command)) => obey(alloc, command, shelf, out, err),
+        Ok(None) => complain_usage(err, usage()),
+        Err(_) => complain_memory(err),
+    }
+}
+
+// Does what the command says.
+fn obey<S: Shelf, O: Sink, E: Sink>(
+    alloc: Global,
+    command: Command<'_>,
+    shelf: &mut S,
+    out: &mut O,
+    err: &mut E,
+) -> Status
+    requires { MayLoad (S.may_ask shelf.old) (form_seen command) }
+    ensures { Answered (start_of (form_seen command.entry)) result
+        (shelf_seen (S.told shelf.old) (S.faults shelf.old) (S.faults shelf.new) (S.taken shelf.old)
+        (S.taken shelf.new))
+        (sink_seen (O.held out.old) (O.held out.new) (O.faults out.old) (O.faults out.new))
+        (sink_seen (E.held err.old) (E.held err.new) (E.faults err.old) (E.faults err.new)) }
+{
+    match command {
+        Command::Check { file } => check_file(alloc, file, shelf, out, err),
+        Command::Compile { file } => compile_file(alloc, file, shelf, out, err),
+        Command::Run {
+            file,
+            process,
+            stimulus,
+        } => run_file(alloc, file, process, stimulus, shelf, out, err),
+        Command::RunModule {
+            file,
+            text,
+            process,
+            stimulus,
+        } => {
+            let words = ModuleRun {
                 file,
+                text,
                 process,
                 stimulus,
-            },
-        ) => run_file(alloc, file, process, stimulus, shelf, out, err),
-        None => complain(
-            err,
-            &[b"usage: anvil check FILE | compile FILE | run FILE PROC STIM\n"],
-            Status::Usage,
-        ),
+            };
+            run_module_file(alloc, words, shelf, out, err)
+        }
     }
 }

@@ -17,3 +17,5 @@ mod samples;
 mod stimuli;
 #[cfg(test)]
 mod threads;
+#[cfg(test)]
+mod words;

@@ -1,7 +1,8 @@
 //! The module of a process.
 ghost use Rattle.std.specs.Prelude.{◌≤◌, IfOk};
 ghost use Rattle.core_term.specs.ProcessView.{process_of};
-ghost use Rattle.machine_meaning.specs.Meaning.{MeansReread};
+ghost use Rattle.core_term.specs.Rules.{KeepsDemands};
+ghost use Rattle.machine_meaning.specs.Meaning.{Agrees, LogsAlike, MeansReread};
 ghost use Rattle.machine_parts.specs.Digits.{digits};
 ghost use Rattle.process_machine.specs.StateBits.{process_bound};
 ghost use Rattle.sv_tree.specs.RegisterBits.{register_bits};
@@ -19,7 +20,9 @@ use std::alloc::{AllocError, Global};
 use sv_tree::SvModule;
 
 /// The module of a process: it has the ports and the registers of the process, and its clocked meaning is the re-reading run, for
-/// every input list that fits the ports, promises kept or not.
+/// every input list that fits the ports, promises kept or not. Where the process keeps the timing rules, the module agrees with its
+/// source run in each cycle up to which the promises of its partners are kept, sees the same first broken promise and has the same log of
+/// the cycles before it.
 ///
 /// Refuses only where memory is refused.
 pub fn build(alloc: Global, proc: &CoreProc) -> Result<SvModule, AllocError>
@@ -28,6 +31,12 @@ pub fn build(alloc: Global, proc: &CoreProc) -> Result<SvModule, AllocError>
         (process_of proc.now.name proc.now.ports.items proc.now.regs.items proc.now.threads.items)) }
     ensures means { IfOk result (MeansReread
         (process_of proc.now.name proc.now.ports.items proc.now.regs.items proc.now.threads.items)) }
+    ensures agrees { IfOk result (λ made.
+        KeepsDemands (process_of proc.now.name proc.now.ports.items proc.now.regs.items proc.now.threads.items)
+        → Agrees (process_of proc.now.name proc.now.ports.items proc.now.regs.items proc.now.threads.items) made) }
+    ensures logs { IfOk result (λ made.
+        KeepsDemands (process_of proc.now.name proc.now.ports.items proc.now.regs.items proc.now.threads.items)
+        → LogsAlike (process_of proc.now.name proc.now.ports.items proc.now.regs.items proc.now.threads.items) made) }
     ensures bits { IfOk result (λ made. register_bits made ≤ process_bound digits
         (process_of proc.now.name proc.now.ports.items proc.now.regs.items proc.now.threads.items)) }
 {

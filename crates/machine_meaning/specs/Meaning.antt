@@ -1,10 +1,11 @@
 -- What a module means against its process: its registers and wires are those of a re-reading run, on all inputs that
 -- fit the ports, promises kept or not.
-use Rattle.std.specs.Prelude.{ℕ, ◌≡◌, ◌<◌, Bool}
+use Rattle.std.specs.Prelude.{ℕ, ◌≡◌, ◌<◌, ◌≤◌, Bool}
 use Rattle.core_term.specs.Inputs.{Inputs}
 use Rattle.core_term.specs.Fitting.{InputsFit}
 use Rattle.core_term.specs.Process.{Process, IsProcess}
 use Rattle.core_term.specs.History.{IsHistory}
+use Rattle.core_term.specs.Wires.{Wires}
 use Rattle.core_term.specs.Outputs.{wires}
 use Rattle.core_term.specs.Rules.{KeepsDemands}
 use Rattle.core_term.specs.Agreement.{AgreesAt}
@@ -34,18 +35,34 @@ MachinesGiveMeaning =
     → (machine : ProcessMachine) × IsShown p tree inputs machine × IsProcessMachine p inputs machine)
     → MeansReread p tree
 
--- So, of a process that keeps the timing rules, it agrees with the source run in each cycle up to which the promises of
--- the partners are kept,
-abbrev pub ModulesAgree : Type 0
-ModulesAgree =
-    (p : Process) → IsProcess p → KeepsDemands p → (tree : Module) → MeansReread p tree
-    → (inputs : Inputs) → InputsFit p inputs → (registers : ℕ → ℕ → ℕ) → IsHistory p inputs registers
+-- The module agrees with the source run of the process, in each cycle up to which the promises of the partners are kept
+-- in that run: in `valid` and `ack` of every port, in every register of the source, and in the data of each sent port
+-- that is offered or in the life of an exchange.
+abbrev pub Agrees : Process → Module → Type 0
+Agrees p tree =
+    (inputs : Inputs) → InputsFit p inputs → (registers : ℕ → ℕ → ℕ) → IsHistory p inputs registers
     → (cycle : ℕ) → cycle < inputs.count → PromisesKept p (wires p inputs registers) cycle
     → AgreesAt p (wires p inputs registers) (shown_wires p tree inputs) registers (shown_registers p tree inputs) cycle
 
--- and both see the same first broken promise, and give the same log of the cycles before it.
+-- Both see the same first broken promise, give the same log of the cycles before it, and keep every promise in the same
+-- first cycles.
+pub record HasSameLog (p : Process) (wires other : Wires) (registers registers' : ℕ → ℕ → ℕ) : Type 0 where
+  pub same : SameLog p wires other registers registers'
+  pub kept : (n : ℕ) → n ≤ wires.count
+      → (((t : ℕ) → t < n → PromisesKept p wires t) → (t : ℕ) → t < n → PromisesKept p other t)
+      × (((t : ℕ) → t < n → PromisesKept p other t) → (t : ℕ) → t < n → PromisesKept p wires t)
+
+abbrev pub LogsAlike : Process → Module → Type 0
+LogsAlike p tree =
+    (inputs : Inputs) → InputsFit p inputs → (registers : ℕ → ℕ → ℕ) → IsHistory p inputs registers
+    → HasSameLog p (wires p inputs registers) (shown_wires p tree inputs) registers (shown_registers p tree inputs)
+
+-- A module that means the re-reading run of a process that keeps the timing rules agrees with its source run,
+abbrev pub ModulesAgree : Type 0
+ModulesAgree =
+    (p : Process) → IsProcess p → KeepsDemands p → (tree : Module) → MeansReread p tree → Agrees p tree
+
+-- and has its log.
 abbrev pub ModuleLogsAreSame : Type 0
 ModuleLogsAreSame =
-    (p : Process) → IsProcess p → KeepsDemands p → (tree : Module) → MeansReread p tree
-    → (inputs : Inputs) → InputsFit p inputs → (registers : ℕ → ℕ → ℕ) → IsHistory p inputs registers
-    → SameLog p (wires p inputs registers) (shown_wires p tree inputs) registers (shown_registers p tree inputs)
+    (p : Process) → IsProcess p → KeepsDemands p → (tree : Module) → MeansReread p tree → LogsAlike p tree

@@ -1,5 +1,2 @@
--- Wires of the ports alone, and rows that are taken one by one.
-pub mod PortWires
-pub mod RowsTaken
--- One cycle, and the lines so far.
-pub mod Cycles
+-- What is seen of the source run on rows.
+pub mod OnRows

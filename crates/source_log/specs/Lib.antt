@@ -1,4 +1,3 @@
--- The log of a process on rows, and what a call that puts it leaves.
+-- What is seen of the source run of a process on rows, and where its simulation stands.
 pub mod Log
-pub mod Ports
-pub mod Running
+pub mod Stands

@@ -1,20 +1,28 @@
--- What was put is a text of the modules, or a front part of one.
-use Rattle.std.proofs.Common.{inl, inr, refl}
+-- The stage refuses, or the texts of the modules are put, or a front part of them.
+use Rattle.std.proofs.Common.{[], ◌∷◌, refl}
 use Rattle.sv_tree.specs.Text.{modules_text}
-use Rattle.anvil_tool.specs.Refused.{refusal_line}
-use Rattle.anvil_tool.proofs.Ruled.{line_told}
+use Rattle.tool_answers.proofs.Steps.{cuts_text, puts_text, stage_refuses}
+use Rattle.checked_files.specs.Check.{IsAcceptedText}
+use Rattle.anvil_tool.specs.Output.{IsOutput}
+use Rattle.anvil_tool.specs.Stages.{file_stages}
+use Rattle.anvil_tool.proofs.Exact.{file_exact}
 use Rattle.anvil_tool.proofs.Written.{output_of}
 use Rattle.anvil_tool.proofs.compile.compile.Goals as goal
 
-pub returns-in-Ok-put_modules-clause-done : goal.returns-in-Ok-put_modules-clause-done
-returns-in-Ok-put_modules-clause-done g c = λ done.
-    (modules_text c.in-Ok.modules.items, output_of c.args.bytes.now c.in-Ok.modules.items c.in-Ok.ensures.modules, rw c.deref.ensures.value at c.in-Ok-put_modules.ensures.whole)
+pub returns-in-Err : goal.returns-in-Err
+returns-in-Err g c = λ told faults taken.
+    stage_refuses (file_stages IsOutput) (file_exact IsOutput) (c.args.bytes.now ∷ []) [] _ _ _ _ (record { same = refl; fine = refl }) refl c.in-Err.refusal c.in-Err.ensures.refused c.complain_refusal.ensures
 
-pub returns-clause-write_fault : goal.returns-clause-write_fault
-returns-clause-write_fault g c = λ fault.
-    inl
-    (modules_text c.in-Ok.modules.items, output_of c.args.bytes.now c.in-Ok.modules.items c.in-Ok.ensures.modules, rw c.deref.ensures.value at c.in-Err-put_modules.ensures.part, c.in-Err-put_modules.ensures.cause, record { same = refl; fine = refl })
+pub returns-in-Ok-put_modules : goal.returns-in-Ok-put_modules
+returns-in-Ok-put_modules g c = λ told faults taken.
+    let are = c.in-Ok.ensures.modules in
+    let accepted : IsAcceptedText c.args.bytes.now = record { file = are.file; is = are.accepted } in
+    puts_text (file_stages IsOutput) (file_exact IsOutput) (c.args.bytes.now ∷ []) accepted _ _ _ _ refl refl (modules_text c.in-Ok.modules.items) (output_of c.args.bytes.now c.in-Ok.modules.items are)
+    (rw c.deref.ensures.value at c.in-Ok-put_modules.ensures.whole) c.in-Ok-put_modules.ensures.fine (record { same = refl; fine = refl }) (λ whole line broken. broken)
 
-pub returns-in-Err-clause-write_fault : goal.returns-in-Err-clause-write_fault
-returns-in-Err-clause-write_fault g c = λ failed.
-    inr (record { same = refl; fine = refl }, refusal_line c.in-Err.refusal, line_told c.args.bytes.now c.in-Err.refusal c.in-Err.ensures.refused, c.complain_refusal.ensures.part failed, c.complain_refusal.ensures.cause failed)
+pub returns : goal.returns
+returns g c = λ told faults taken.
+    let are = c.in-Ok.ensures.modules in
+    let accepted : IsAcceptedText c.args.bytes.now = record { file = are.file; is = are.accepted } in
+    cuts_text (file_stages IsOutput) (file_exact IsOutput) (c.args.bytes.now ∷ []) accepted _ _ _ _ refl refl (modules_text c.in-Ok.modules.items) (output_of c.args.bytes.now c.in-Ok.modules.items are)
+    (rw c.deref.ensures.value at c.in-Err-put_modules.ensures.part) c.in-Err-put_modules.ensures.cause (record { same = refl; fine = refl })

@@ -1,6 +1,6 @@
--- The law is the lemma on two answers.
-use Rattle.anvil_tool.proofs.OneAnswer.{one_answer}
+-- The law is the lemma of the one answer.
+use Rattle.anvil_tool.proofs.Exact.{has_one}
 use Rattle.anvil_tool.proofs.laws.has_one_answer.Goals as goal
 
 pub returns : goal.returns
-returns c = one_answer
+returns c = has_one

@@ -8,4 +8,4 @@ loop-proc-preserved c =
     let built = c.in_ok-build.ensures in
     rw c.in_ok-push.ensures.items
     (module_more c.args.procs.now c.loop-proc.proc-index c.proc-item.result _ _ (omega arith) c.proc-item.is c.loop-proc.invariant
-    (record { well_formed = built.well_formed; parts = built.parts; means = built.means; bits = built.bits }))
+    (record { well_formed = built.well_formed; parts = built.parts; means = built.means; agrees = built.agrees; logs = built.logs; bits = built.bits }))

@@ -1,7 +1,7 @@
 -- The modules of the processes of the code are those of the file that was accepted, which has no refusal.
 use Rattle.anvil_tree.specs.View.{file_of}
 use Rattle.anvil_tool.proofs.Described.{modules_are}
-use Rattle.anvil_tool.proofs.Ruled.{accepted_or_refused}
+use Rattle.checked_files.proofs.Ruled.{accepted_or_refused}
 use Rattle.anvil_tool.proofs.modules.modules_of_bytes.Goals as goal
 
 pub returns-in-Ok-modules_of-clause-modules : goal.returns-in-Ok-modules_of-clause-modules

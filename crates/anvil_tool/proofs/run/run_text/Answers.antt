@@ -1,84 +1,68 @@
--- What was put is the log of the rows that were read, and these are the rows of the text.
-use Rattle.std.proofs.Common.{inl, inr, refl, subst, arith}
+-- The stage refuses, or the log is put: whole, in front, or up to a broken promise.
+use Rattle.std.proofs.Common.{[], ◌∷◌, length, map, refl, arith}
 use Rattle.std.proofs.Math.ListN.{length-map}
-use Rattle.std.specs.Io.KnownBytes.{Appends}
-use Rattle.core_term.specs.Process.{nth_port}
+use Rattle.core_term.specs.Process.{Process, nth_port}
 use Rattle.core_term.specs.ProcessView.{port_of, process_of}
 use Rattle.stim_text.specs.Answers.{AreRowsOf}
-use Rattle.stim_text.proofs.PortsFit.{ports_fit}
-use Rattle.source_log.specs.Log.{IsStopped, IsWhole, log_to}
-use Rattle.source_log.proofs.PortWires.{received_within}
-use Rattle.anvil_tool.specs.Run.{breach_line}
-use Rattle.anvil_tool.specs.Running.{StopsAt}
-use Rattle.anvil_tool.proofs.Stimuli.{rows_once}
-use Rattle.anvil_tool.proofs.Runs.{stops_once, first_at, kept_or_broken}
-use Rattle.anvil_tool.proofs.OneFile.{no_rise}
+use Rattle.run_log.specs.Log.{IsCut, IsNothing, IsStopped, IsWhole, log_to}
+use Rattle.run_log.proofs.PortWires.{received_within}
+use Rattle.source_log.specs.Log.{shown_on}
+use Rattle.tool_answers.proofs.Steps.{breaks_text, cuts_text, puts_text, stage_refuses, wants_memory}
+use Rattle.anvil_tool.specs.Logs.{breach_line}
+use Rattle.anvil_tool.specs.Run.{HasRun}
+use Rattle.anvil_tool.specs.Stages.{run_stages}
+use Rattle.anvil_tool.proofs.SourceRuns.{kept_run, run_exact}
 use Rattle.anvil_tool.proofs.run.run_text.Goals as goal
 
-pub returns-in-Ok-None-clause-done : goal.returns-in-Ok-None-clause-done
-returns-in-Ok-None-clause-done g c = λ done.
-    let p = process_of c.args.proc.now.name c.args.proc.now.ports.items c.args.proc.now.regs.items c.args.proc.now.threads.items in
-    let are : AreRowsOf p.ports c.args.text.now c.deref.result.now = rw c.deref.ensures.value c.in-Ok.ensures.rows in
-    let whole : IsWhole p c.deref.result.now (g.O.Sink.held c.args.out.now) (g.O.Sink.held c.put_log.new.out) (g.O.Sink.faults c.args.out.now) (g.O.Sink.faults c.put_log.new.out) = rw c.in-Ok-None.field-0-is at c.in-Ok-None.ensures in
-    record { rows = c.deref.result.now; are = are; kept = whole.kept; appended = whole.appended }
+pub returns-in-Err : goal.returns-in-Err
+returns-in-Err g c = λ told faults taken bytes name is.
+    stage_refuses (run_stages name) (run_exact name) (bytes ∷ c.args.text.now ∷ []) [] _ _ _ _ (record { same = refl; fine = refl }) refl c.in-Err.refusal
+    (λ not_memory. record { process = _; of_file = is; refused = c.in-Err.ensures.refused not_memory }) c.complain_refusal.ensures
 
-pub returns-in-Ok-None-clause-every_breach : goal.returns-in-Ok-None-clause-every_breach
-returns-in-Ok-None-clause-every_breach g c = λ text line stops out_fine err_fine.
+pub returns-in-Ok-None : goal.returns-in-Ok-None
+returns-in-Ok-None g c = λ told faults taken bytes name is.
     let p = process_of c.args.proc.now.name c.args.proc.now.ports.items c.args.proc.now.regs.items c.args.proc.now.threads.items in
-    let are : AreRowsOf p.ports c.args.text.now c.deref.result.now = rw c.deref.ensures.value c.in-Ok.ensures.rows in
-    let whole : IsWhole p c.deref.result.now (g.O.Sink.held c.args.out.now) (g.O.Sink.held c.put_log.new.out) (g.O.Sink.faults c.args.out.now) (g.O.Sink.faults c.put_log.new.out) = rw c.in-Ok-None.field-0-is at c.in-Ok-None.ensures in
-    let once = rows_once p.ports c.args.text.now (ports_fit c.args.proc.now.name c.args.proc.now.ports.items c.args.proc.now.regs.items c.args.proc.now.threads.items c.args.proc.now.sized) in
-    absurd (kept_or_broken p c.deref.result.now stops.cycle stops.port whole.kept (first_at p c.args.text.now text line c.deref.result.now once are stops))
+    let rows = c.deref.result.now in
+    let are : AreRowsOf p.ports c.args.text.now rows = rw c.deref.ensures.value c.in-Ok.ensures.rows in
+    let has : HasRun bytes name c.args.text.now = record { process = p; of_file = is; of_text = record { rows = rows; are = are } } in
+    let whole : IsWhole p (shown_on p rows) (length rows) (g.O.Sink.held c.args.out.now) (g.O.Sink.held c.put_log.new.out) (g.O.Sink.faults c.args.out.now) (g.O.Sink.faults c.put_log.new.out) = rw c.in-Ok-None.field-0-is at c.in-Ok-None.ensures in
+    puts_text (run_stages name) (run_exact name) (bytes ∷ c.args.text.now ∷ []) has _ _ _ _ refl refl (log_to p (shown_on p rows) (length rows))
+    (record { process = p; of_file = is; log = record { rows = rows; are = are; kept = whole.kept; is = refl } }) whole.appended whole.fine (record { same = refl; fine = refl })
+    (kept_run bytes name c.args.text.now p is rows are whole.kept)
 
 pub complain_breach-requires : goal.complain_breach-requires
 complain_breach-requires g c =
     let p = process_of c.args.proc.now.name c.args.proc.now.ports.items c.args.proc.now.regs.items c.args.proc.now.threads.items in
-    let stopped : IsStopped p c.deref.result.now c.in-Ok-Some.broken (g.O.Sink.held c.args.out.now) (g.O.Sink.held c.put_log.new.out) (g.O.Sink.faults c.args.out.now) (g.O.Sink.faults c.put_log.new.out) = rw c.in-Ok-Some.field-0-is at c.in-Ok-Some.ensures in
+    let rows = c.deref.result.now in
+    let stopped : IsStopped p (shown_on p rows) c.in-Ok-Some.broken (g.O.Sink.held c.args.out.now) (g.O.Sink.held c.put_log.new.out) (g.O.Sink.faults c.args.out.now) (g.O.Sink.faults c.put_log.new.out) = rw c.in-Ok-Some.field-0-is at c.in-Ok-Some.ensures in
     let within = received_within p.ports c.in-Ok-Some.broken.port stopped.first.received in
     let count = length-map c.args.proc.now.ports.items port_of in
     omega (arith, within, count)
 
-pub returns-in-Ok-Some-clause-breach : goal.returns-in-Ok-Some-clause-breach
-returns-in-Ok-Some-clause-breach g c = λ broken.
+pub returns-in-Ok-Some : goal.returns-in-Ok-Some
+returns-in-Ok-Some g c = λ told faults taken bytes name is.
     let p = process_of c.args.proc.now.name c.args.proc.now.ports.items c.args.proc.now.regs.items c.args.proc.now.threads.items in
-    let are : AreRowsOf p.ports c.args.text.now c.deref.result.now = rw c.deref.ensures.value c.in-Ok.ensures.rows in
-    let stopped : IsStopped p c.deref.result.now c.in-Ok-Some.broken (g.O.Sink.held c.args.out.now) (g.O.Sink.held c.put_log.new.out) (g.O.Sink.faults c.args.out.now) (g.O.Sink.faults c.put_log.new.out) = rw c.in-Ok-Some.field-0-is at c.in-Ok-Some.ensures in
-    let here : StopsAt p c.args.text.now (log_to p c.deref.result.now c.in-Ok-Some.broken.cycle) (breach_line c.in-Ok-Some.broken.cycle (nth_port p.ports c.in-Ok-Some.broken.port)) =
-    record { rows = c.deref.result.now; are = are; cycle = c.in-Ok-Some.broken.cycle; port = c.in-Ok-Some.broken.port; first = stopped.first; is = refl; told = refl } in
-    record { whole = _; line = _; stops = here; appended = stopped.appended; said = c.complain_breach.ensures.whole (λ failed. cc) }
+    let rows = c.deref.result.now in
+    let broken = c.in-Ok-Some.broken in
+    let are : AreRowsOf p.ports c.args.text.now rows = rw c.deref.ensures.value c.in-Ok.ensures.rows in
+    let has : HasRun bytes name c.args.text.now = record { process = p; of_file = is; of_text = record { rows = rows; are = are } } in
+    let stopped : IsStopped p (shown_on p rows) broken (g.O.Sink.held c.args.out.now) (g.O.Sink.held c.put_log.new.out) (g.O.Sink.faults c.args.out.now) (g.O.Sink.faults c.put_log.new.out) = rw c.in-Ok-Some.field-0-is at c.in-Ok-Some.ensures in
+    breaks_text (run_stages name) (run_exact name) (bytes ∷ c.args.text.now ∷ []) has _ _ _ _ refl (log_to p (shown_on p rows) broken.cycle) (breach_line broken.cycle (nth_port p.ports broken.port))
+    (record { process = p; of_file = is; log = record { rows = rows; are = are; cycle = broken.cycle; port = broken.port; first = stopped.first; is = refl; told = refl } })
+    stopped.appended stopped.fine c.complain_breach.ensures
 
-pub returns-in-Ok-Some-clause-every_breach : goal.returns-in-Ok-Some-clause-every_breach
-returns-in-Ok-Some-clause-every_breach g c = λ whole line stops out_fine err_fine.
+pub returns-in-Err-Fault : goal.returns-in-Err-Fault
+returns-in-Err-Fault g c = λ told faults taken bytes name is.
     let p = process_of c.args.proc.now.name c.args.proc.now.ports.items c.args.proc.now.regs.items c.args.proc.now.threads.items in
-    let are : AreRowsOf p.ports c.args.text.now c.deref.result.now = rw c.deref.ensures.value c.in-Ok.ensures.rows in
-    let stopped : IsStopped p c.deref.result.now c.in-Ok-Some.broken (g.O.Sink.held c.args.out.now) (g.O.Sink.held c.put_log.new.out) (g.O.Sink.faults c.args.out.now) (g.O.Sink.faults c.put_log.new.out) = rw c.in-Ok-Some.field-0-is at c.in-Ok-Some.ensures in
-    let here : StopsAt p c.args.text.now (log_to p c.deref.result.now c.in-Ok-Some.broken.cycle) (breach_line c.in-Ok-Some.broken.cycle (nth_port p.ports c.in-Ok-Some.broken.port)) =
-    record { rows = c.deref.result.now; are = are; cycle = c.in-Ok-Some.broken.cycle; port = c.in-Ok-Some.broken.port; first = stopped.first; is = refl; told = refl } in
-    let once = rows_once p.ports c.args.text.now (ports_fit c.args.proc.now.name c.args.proc.now.ports.items c.args.proc.now.regs.items c.args.proc.now.threads.items c.args.proc.now.sized) in
-    let same = stops_once p c.args.text.now _ whole _ line once here stops in
-    elim c.complain_breach.ensures.status [
-      | inl is ↦ inl (
-        is,
-        subst (Appends (g.O.Sink.held c.args.out.now) (g.O.Sink.held c.put_log.new.out)) same.0 stopped.appended,
-        subst (Appends (g.E.Sink.held c.args.err.now) (g.E.Sink.held c.complain_breach.new.err)) same.1 (c.complain_breach.ensures.whole (λ failed. cc)),
-      )
-      | inr failed ↦ absurd (no_rise _ _ err_fine (c.complain_breach.ensures.cause failed))
-    ]
+    let rows = c.deref.result.now in
+    let are : AreRowsOf p.ports c.args.text.now rows = rw c.deref.ensures.value c.in-Ok.ensures.rows in
+    let has : HasRun bytes name c.args.text.now = record { process = p; of_file = is; of_text = record { rows = rows; are = are } } in
+    let cut : IsCut p (shown_on p rows) (length rows) (g.O.Sink.held c.args.out.now) (g.O.Sink.held c.put_log.new.out) (g.O.Sink.faults c.args.out.now) (g.O.Sink.faults c.put_log.new.out) = rw c.in-Err-Fault.field-0-is at c.in-Err-Fault.ensures in
+    cuts_text (run_stages name) (run_exact name) (bytes ∷ c.args.text.now ∷ []) has _ _ _ _ refl refl (log_to p (shown_on p rows) cut.lines)
+    (record { process = p; of_file = is; log = record { rows = rows; are = are; lines = cut.lines; within = cut.within; kept = cut.kept; is = refl } }) cut.part cut.cause (record { same = refl; fine = refl })
 
-pub returns-in-Ok-Some-clause-write_fault : goal.returns-in-Ok-Some-clause-write_fault
-returns-in-Ok-Some-clause-write_fault g c = λ failed.
+pub returns : goal.returns
+returns g c = λ told faults taken bytes name is.
     let p = process_of c.args.proc.now.name c.args.proc.now.ports.items c.args.proc.now.regs.items c.args.proc.now.threads.items in
-    let are : AreRowsOf p.ports c.args.text.now c.deref.result.now = rw c.deref.ensures.value c.in-Ok.ensures.rows in
-    let stopped : IsStopped p c.deref.result.now c.in-Ok-Some.broken (g.O.Sink.held c.args.out.now) (g.O.Sink.held c.put_log.new.out) (g.O.Sink.faults c.args.out.now) (g.O.Sink.faults c.put_log.new.out) = rw c.in-Ok-Some.field-0-is at c.in-Ok-Some.ensures in
-    let here : StopsAt p c.args.text.now (log_to p c.deref.result.now c.in-Ok-Some.broken.cycle) (breach_line c.in-Ok-Some.broken.cycle (nth_port p.ports c.in-Ok-Some.broken.port)) =
-    record { rows = c.deref.result.now; are = are; cycle = c.in-Ok-Some.broken.cycle; port = c.in-Ok-Some.broken.port; first = stopped.first; is = refl; told = refl } in
-    inr (inr (record { whole = _; line = _; stops = here; appended = stopped.appended; fine = stopped.fine; part = c.complain_breach.ensures.part failed; cause = c.complain_breach.ensures.cause failed }))
-
-pub returns-in-Ok-Some-clause-complete : goal.returns-in-Ok-Some-clause-complete
-returns-in-Ok-Some-clause-complete g c = λ unbroken has out_fine err_fine.
-    let p = process_of c.args.proc.now.name c.args.proc.now.ports.items c.args.proc.now.regs.items c.args.proc.now.threads.items in
-    let are : AreRowsOf p.ports c.args.text.now c.deref.result.now = rw c.deref.ensures.value c.in-Ok.ensures.rows in
-    let stopped : IsStopped p c.deref.result.now c.in-Ok-Some.broken (g.O.Sink.held c.args.out.now) (g.O.Sink.held c.put_log.new.out) (g.O.Sink.faults c.args.out.now) (g.O.Sink.faults c.put_log.new.out) = rw c.in-Ok-Some.field-0-is at c.in-Ok-Some.ensures in
-    let here : StopsAt p c.args.text.now (log_to p c.deref.result.now c.in-Ok-Some.broken.cycle) (breach_line c.in-Ok-Some.broken.cycle (nth_port p.ports c.in-Ok-Some.broken.port)) =
-    record { rows = c.deref.result.now; are = are; cycle = c.in-Ok-Some.broken.cycle; port = c.in-Ok-Some.broken.port; first = stopped.first; is = refl; told = refl } in
-    absurd (unbroken _ _ here)
+    let nothing : IsNothing (g.O.Sink.held c.args.out.now) (g.O.Sink.held c.put_log.new.out) (g.O.Sink.faults c.args.out.now) (g.O.Sink.faults c.put_log.new.out) = rw c.in-Err-NoMemory.field-0-is at c.in-Err-NoMemory.ensures in
+    wants_memory (record { of = run_stages name; loaded = bytes ∷ c.args.text.now ∷ []; loads = [] }) _ _ _ _ (record { same = nothing.same; fine = nothing.fine }) refl c.complain_memory.ensures

@@ -2,7 +2,7 @@
 use Rattle.std.proofs.Common.{map, inl}
 use Rattle.core_term.specs.ProcessView.{port_of}
 use Rattle.stim_text.proofs.PortsFit.{ports_fit}
-use Rattle.anvil_tool.specs.Run.{too_many}
+use Rattle.anvil_tool.specs.Logs.{too_many}
 use Rattle.anvil_tool.proofs.Stimuli.{rows_fit, rows_or_refused, stimulus_refused_once, told_line}
 use Rattle.anvil_tool.proofs.stimulus.rows_of_text.Goals as goal
 

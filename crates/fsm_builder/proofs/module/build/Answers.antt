@@ -18,6 +18,7 @@ use Rattle.module_frame.proofs.Assembled.{sized_parts}
 use Rattle.process_nets.specs.Kept.{IsKept}
 use Rattle.process_nets.specs.Acts.{EachDraft}
 use Rattle.drawn_machine.proofs.Sourced.{sources, wires, words}
+use Rattle.machine_meaning.proofs.Agreement.{module_agrees, module_logs}
 use Rattle.fsm_builder.specs.declared.threads.Sources.{Sources}
 use Rattle.fsm_builder.specs.Drafts.{AreReady, DraftsDrawn, PlansAre}
 use Rattle.fsm_builder.proofs.Built as built
@@ -255,6 +256,16 @@ returns-clause-means c =
     (subst (λ wires. ModuleDrawn c.in_ok-made.made c.deref-13.result.now c.deref-12.result.now c.deref-14.result.now wires drafts) same_wires
     (subst (λ drafts. ModuleDrawn c.in_ok-made.made c.deref-13.result.now c.deref-12.result.now c.deref-14.result.now c.deref-15.result.now drafts) c.deref-16.ensures.value c.in_ok-made.ensures.drawn)))) in
     built.means name ports registers threads c.stands.ensures proc.sized parts.ports_fit plans plan_count plans_are frame frame_is s registers_are words_are wires_are new new_ports new_regs drafts count drawn c.in_ok-made.made c.in_ok-made.ensures.extends c.in_ok-made.ensures.well_formed gives
+
+pub returns-clause-agrees : goal.returns-clause-agrees
+returns-clause-agrees c = λ keeps.
+    let proc = c.args.proc.now in
+    module_agrees (process_of proc.name proc.ports.items proc.regs.items proc.threads.items) c.stands.ensures keeps c.in_ok-made.made (returns-clause-means c)
+
+pub returns-clause-logs : goal.returns-clause-logs
+returns-clause-logs c = λ keeps.
+    let proc = c.args.proc.now in
+    module_logs (process_of proc.name proc.ports.items proc.regs.items proc.threads.items) c.stands.ensures keeps c.in_ok-made.made (returns-clause-means c)
 
 pub returns-clause-bits : goal.returns-clause-bits
 returns-clause-bits c =

@@ -1,0 +1,52 @@
+-- The stages of every command are exact, so at most one answer has its cause.
+use Rattle.std.proofs.Common.{◌≡◌, ◌∙◌, ℕ, List, [], ◌∷◌, Option, Some, None, refl, sym}
+use Rattle.command_words.specs.Form.{Command, check, compile, run, runsv, Form, usage_line}
+use Rattle.tool_answers.specs.declared.refusal.Refusal.{Refusal}
+use Rattle.tool_answers.specs.declared.status.Status.{Status}
+use Rattle.tool_answers.specs.declared.status.Status.TheVariants.{Usage}
+use Rattle.tool_answers.specs.Stages.{AreExact}
+use Rattle.tool_answers.specs.OneAnswer.{HasCause}
+use Rattle.tool_answers.proofs.OneAnswer.{one_answer}
+use Rattle.checked_files.proofs.Ruled.{check_refused_once, accepted_or_refused}
+use Rattle.anvil_tool.specs.Laws.{HasOneAnswer, IsCaused, of_form, of_words}
+use Rattle.anvil_tool.specs.Stages.{file_goes_on, file_refuses, file_stages, second_of, stages_by, start_of, third_of}
+use Rattle.anvil_tool.proofs.SourceRuns.{run_exact}
+use Rattle.anvil_tool.proofs.ModuleRuns.{module_exact}
+
+file_once : (loaded : List (List ℕ)) (one other : Refusal) → file_refuses loaded one → file_refuses loaded other → one ≡ other
+file_once [] one other first second = absurd first
+file_once (file ∷ []) one other first second = check_refused_once file one other first second
+file_once (file ∷ next ∷ more) one other first second = absurd first
+
+file_apart : (loaded : List (List ℕ)) (refusal : Refusal) → file_refuses loaded refusal → file_goes_on loaded → ⊥
+file_apart [] refusal first accepted = first
+file_apart (file ∷ []) refusal first accepted = accepted_or_refused file refusal first accepted
+file_apart (file ∷ next ∷ more) refusal first accepted = first
+
+pub file_exact : (output : List ℕ → List ℕ → Type 0) → AreExact (file_stages output)
+file_exact output = record { once = file_once; apart = file_apart; one_break = λ loaded text other line said first second. absurd first }
+
+pub exact : (command : Command) (operands : List (List ℕ)) → AreExact (stages_by command operands)
+exact check operands = file_exact _
+exact compile operands = file_exact _
+exact run operands = run_exact (second_of operands)
+exact runsv operands = module_exact (third_of operands)
+
+-- At most one answer has its cause.
+
+record Caused (told : List ℕ → Option (List ℕ)) (form : Form) (status : Status) (line : List ℕ) : Type 0 where
+  cause : HasCause told (start_of form) status line
+
+caused : (told : List ℕ → Option (List ℕ)) (form : Form) (status : Status) (line : List ℕ) → IsCaused told (Some form) status line → Caused told form status line
+caused told form status line (of_form same some said cause) = record { cause = cause }
+
+without_form : (told : List ℕ → Option (List ℕ)) (status : Status) (line : List ℕ) → IsCaused told None status line → (status ≡ Usage) × (line ≡ usage_line)
+without_form told status line of_words = (refl, refl)
+
+pub has_one : HasOneAnswer
+has_one told None one other line said first second =
+    let here = without_form told one line first in
+    let there = without_form told other said second in
+    (here.0 ∙ sym there.0, here.1 ∙ sym there.1)
+has_one told (Some form) one other line said first second =
+    one_answer told (start_of form) (exact form.command form.operands) one other line said (caused told form one line first).cause (caused told form other said second).cause

@@ -1,0 +1,13 @@
+//! From the bytes of a source file to the accepted file that they spell, or to its first refusal.
+#![tactic(auto)]
+
+mod faults;
+mod front;
+mod process;
+mod rules;
+
+pub use anvil_tree::File;
+pub use core_term::{Accepted, CoreProc};
+pub use process::{Chosen, process_of_bytes};
+pub use rules::{AcceptedText, accepted_of_bytes};
+pub use tool_answers::Refusal;

@@ -1,0 +1,4 @@
+pub mod Ways
+pub mod Statuses
+pub mod Steps
+pub mod OneAnswer
