@@ -29,11 +29,11 @@ pub(crate) fn modules_of_bytes(alloc: Global, bytes: &[u8]) -> Result<Vec<SvModu
         → MatchResult result (λ _. ⊥) (λ found. (found ≡ refusal) ⊎ (found ≡ Refusal.NoMemory)) }
     ensures every_file { IsAcceptedText bytes.now → IfErr result (λ refusal. refusal ≡ Refusal.NoMemory) }
 {
-    let found = match accepted_of_bytes(alloc, bytes) {
-        Ok(found) => found,
+    let accepted = match accepted_of_bytes(alloc, bytes) {
+        Ok(accepted) => accepted,
         Err(refusal) => return Err(refusal),
     };
-    match modules_of(alloc, &found.file.file().procs) {
+    match modules_of(alloc, &accepted.file().procs) {
         Ok(modules) => Ok(modules),
         Err(_) => Err(Refusal::NoMemory),
     }

@@ -2,7 +2,8 @@
 use Rattle.std.specs.Prelude.{◌≡◌, ℕ, List, map, slice_get, Some}
 use Rattle.anvil_tree.specs.Tree.{File}
 use Rattle.channel_classes.specs.Classes.{classes_of}
-use Rattle.core_file.specs.CoreFile.{Placed, core_file}
+use Rattle.core_file.specs.CoreFile.{Placed, core_file, placed_of}
+use Rattle.core_term.specs.declared.process.CoreProc.{CoreProc}
 use Rattle.core_term.specs.Process.{Process}
 use Rattle.core_term.specs.Violations.{Broken, HasNoViolations}
 use Rattle.core_term.specs.AcceptedFile.{AllRunSafely}
@@ -52,3 +53,9 @@ pub record IsAcceptedFile (bytes : List ℕ) (file : File) : Type 0 where
 pub record IsAcceptedText (bytes : List ℕ) : Type 0 where
   pub file : File
   pub is : IsAcceptedFile bytes file
+
+-- bytes that spell an accepted file, whose core file is that of these processes of the code
+pub record IsAcceptedCore (bytes : List ℕ) (procs : List CoreProc) : Type 0 where
+  pub file : File
+  pub accepted : IsAcceptedFile bytes file
+  pub core : map placed_of procs ≡ placed_in file

@@ -6,8 +6,7 @@ mod front;
 mod process;
 mod rules;
 
-pub use anvil_tree::File;
 pub use core_term::{Accepted, CoreProc};
 pub use process::{Chosen, process_of_bytes};
-pub use rules::{AcceptedText, accepted_of_bytes};
+pub use rules::accepted_of_bytes;
 pub use tool_answers::Refusal;

@@ -56,13 +56,13 @@ pub fn process_of_bytes(alloc: Global, bytes: &[u8], name: &[u8]) -> Result<Chos
         → MatchResult result (λ _. ⊥) (λ found. (found ≡ refusal) ⊎ (found ≡ Refusal.NoMemory)) }
     ensures every_process { HasProcess bytes.now name.now → IfErr result (λ refusal. refusal ≡ Refusal.NoMemory) }
 {
-    let found = match accepted_of_bytes(alloc, bytes) {
-        Ok(found) => found,
+    let accepted = match accepted_of_bytes(alloc, bytes) {
+        Ok(accepted) => accepted,
         Err(refusal) => return Err(refusal),
     };
-    match find_process(found.file.file(), name) {
+    match find_process(accepted.file(), name) {
         Some(index) => Ok(Chosen {
-            file: found.file,
+            file: accepted,
             index,
         }),
         None => Err(Refusal::Bare {

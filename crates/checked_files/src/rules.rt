@@ -1,16 +1,12 @@
 //! A file that keeps the timing rules, or why it does not.
 ghost use Rattle.std.specs.Prelude.{◌≡◌, ◌≢◌, ◌⊎◌, ◌≤◌, ◌^◌, List, ℕ, length, map, IfErr, IfOk, MatchResult, OnOk};
-ghost use Rattle.anvil_tree.specs.View.{file_of};
-ghost use Rattle.channel_classes.specs.Classes.{classes_of};
-ghost use Rattle.core_file.specs.CoreFile.{core_file, placed_of};
 ghost use Rattle.core_term.specs.AcceptedFile.{AllRunSafely, file_of as processes_of};
 ghost use Rattle.core_term.specs.Violations.{HasNoViolations};
-ghost use Rattle.checked_files.specs.Check.{IsAcceptedFile, IsAcceptedText, IsCheckRefused};
+ghost use Rattle.checked_files.specs.Check.{IsAcceptedCore, IsAcceptedText, IsCheckRefused};
 ghost use Rattle.checked_files.specs.Ruled.{IsRejectedCore};
 
 use crate::faults::code_of;
 use crate::front::{Front, core_of_bytes};
-use anvil_tree::File;
 use core_term::{Accepted, CoreFile};
 use std::alloc::Global;
 use timing_check::{TimingErr, check_timing};
@@ -41,30 +37,21 @@ fn accepted_of(alloc: Global, core: CoreFile) -> Result<Accepted, Refusal>
     }
 }
 
-/// An accepted file, as it is written, and as it is when all names are resolved.
-#[derive(Drop)]
-pub struct AcceptedText {
-    pub tree: File,
-    pub file: Accepted,
-}
-
 /// The accepted file that the bytes spell, or why they spell none.
-pub fn accepted_of_bytes(alloc: Global, bytes: &[u8]) -> Result<AcceptedText, Refusal>
+pub fn accepted_of_bytes(alloc: Global, bytes: &[u8]) -> Result<Accepted, Refusal>
     requires { length bytes.now ≤ 2 ^ 20 }
-    ensures accepted { IfOk result (λ found. IsAcceptedFile bytes.now (file_of found.tree)) }
-    ensures core { IfOk result (λ found. map placed_of found.file.procs.items
-        ≡ core_file (classes_of (file_of found.tree)) (file_of found.tree)) }
+    ensures accepted { IfOk result (λ accepted. IsAcceptedCore bytes.now accepted.procs.items) }
     ensures refused { IfErr result (λ refusal. refusal ≢ Refusal.NoMemory → IsCheckRefused bytes.now refusal) }
     ensures every_refusal { (refusal : Refusal) → IsCheckRefused bytes.now refusal
         → MatchResult result (λ _. ⊥) (λ found. (found ≡ refusal) ⊎ (found ≡ Refusal.NoMemory)) }
     ensures every_file { IsAcceptedText bytes.now → IfErr result (λ refusal. refusal ≡ Refusal.NoMemory) }
 {
-    let Front { tree, core } = match core_of_bytes(alloc, bytes) {
+    let Front { tree: _tree, core } = match core_of_bytes(alloc, bytes) {
         Ok(front) => front,
         Err(refusal) => return Err(refusal),
     };
     match accepted_of(alloc, core) {
-        Ok(file) => Ok(AcceptedText { tree, file }),
+        Ok(accepted) => Ok(accepted),
         Err(refusal) => Err(refusal),
     }
 }

@@ -1,14 +1,13 @@
 -- The modules of the processes of the code are those of the file that was accepted, which has no refusal.
-use Rattle.anvil_tree.specs.View.{file_of}
 use Rattle.anvil_tool.proofs.Described.{modules_are}
 use Rattle.checked_files.proofs.Ruled.{accepted_or_refused}
 use Rattle.anvil_tool.proofs.modules.modules_of_bytes.Goals as goal
 
 pub returns-in-Ok-modules_of-clause-modules : goal.returns-in-Ok-modules_of-clause-modules
 returns-in-Ok-modules_of-clause-modules c =
-    modules_are c.args.bytes.now (file_of c.in-Ok.found.tree) c.in-Ok.found.file.procs.items c.in-Ok-modules_of.modules.items c.in-Ok.ensures.accepted c.in-Ok.ensures.core
+    modules_are c.args.bytes.now c.in-Ok.ensures.accepted.file c.in-Ok.accepted.procs.items c.in-Ok-modules_of.modules.items c.in-Ok.ensures.accepted.accepted c.in-Ok.ensures.accepted.core
     (rw (c.deref.ensures.value, c.file.ensures.same) at c.in-Ok-modules_of.ensures)
 
 pub returns-in-Ok-modules_of-clause-every_refusal : goal.returns-in-Ok-modules_of-clause-every_refusal
 returns-in-Ok-modules_of-clause-every_refusal c = λ refusal refused.
-    accepted_or_refused c.args.bytes.now refusal refused (record { file = file_of c.in-Ok.found.tree; is = c.in-Ok.ensures.accepted })
+    accepted_or_refused c.args.bytes.now refusal refused (record { file = c.in-Ok.ensures.accepted.file; is = c.in-Ok.ensures.accepted.accepted })

@@ -17,8 +17,10 @@ returns-in-Err-clause-every_file c = file_told c.args.bytes.now c.in-Err.refusal
 
 pub returns-in-Ok-accepted_of-clause-accepted : goal.returns-in-Ok-accepted_of-clause-accepted
 returns-in-Ok-accepted_of-clause-accepted c =
+    let is : IsAcceptedFile c.args.bytes.now (file_of c.in-Ok.front.tree) =
     accepted_by (file_of c.in-Ok.front.tree) c.in-Ok.front.core.procs.items c.in-Ok.ensures.core c.args.bytes.now c.in-Ok.ensures.spelled
-    c.in-Ok-accepted_of.ensures.accepted c.in-Ok-accepted_of.ensures.safe
+    c.in-Ok-accepted_of.ensures.accepted c.in-Ok-accepted_of.ensures.safe in
+    record { file = file_of c.in-Ok.front.tree; accepted = is; core = rw c.in-Ok-accepted_of.ensures.same c.in-Ok.ensures.core }
 
 pub returns-in-Ok-accepted_of-clause-every_refusal : goal.returns-in-Ok-accepted_of-clause-every_refusal
 returns-in-Ok-accepted_of-clause-every_refusal c = λ refusal refused.
@@ -27,20 +29,17 @@ returns-in-Ok-accepted_of-clause-every_refusal c = λ refusal refused.
     c.in-Ok-accepted_of.ensures.accepted c.in-Ok-accepted_of.ensures.safe in
     accepted_or_refused c.args.bytes.now refusal refused (record { file = file_of c.in-Ok.front.tree; is = is })
 
-pub returns-in-Err-accepted_of-clause-refused : goal.returns-in-Err-accepted_of-clause-refused
-returns-in-Err-accepted_of-clause-refused c = λ not_memory.
+pub returns-clause-refused : goal.returns-clause-refused
+returns-clause-refused c = λ not_memory.
     by_rules (file_of c.in-Ok.front.tree) c.in-Err-accepted_of.refusal c.in-Ok.ensures.spelled
     (rejected_by (file_of c.in-Ok.front.tree) c.in-Ok.front.core.procs.items c.in-Ok.ensures.core c.in-Err-accepted_of.refusal (c.in-Err-accepted_of.ensures.refused not_memory))
 
-pub returns-in-Err-accepted_of-clause-every_refusal : goal.returns-in-Err-accepted_of-clause-every_refusal
-returns-in-Err-accepted_of-clause-every_refusal c =
-    let told : c.in-Err-accepted_of.refusal ≢ NoMemory → IsCheckRefused c.args.bytes.now c.in-Err-accepted_of.refusal = returns-in-Err-accepted_of-clause-refused c in
+pub returns-clause-every_refusal : goal.returns-clause-every_refusal
+returns-clause-every_refusal c =
+    let told : c.in-Err-accepted_of.refusal ≢ NoMemory → IsCheckRefused c.args.bytes.now c.in-Err-accepted_of.refusal = returns-clause-refused c in
     each_told c.args.bytes.now c.in-Err-accepted_of.refusal told
 
-pub returns-in-Err-accepted_of-clause-every_file : goal.returns-in-Err-accepted_of-clause-every_file
-returns-in-Err-accepted_of-clause-every_file c =
-    let told : c.in-Err-accepted_of.refusal ≢ NoMemory → IsCheckRefused c.args.bytes.now c.in-Err-accepted_of.refusal = returns-in-Err-accepted_of-clause-refused c in
+pub returns-clause-every_file : goal.returns-clause-every_file
+returns-clause-every_file c =
+    let told : c.in-Err-accepted_of.refusal ≢ NoMemory → IsCheckRefused c.args.bytes.now c.in-Err-accepted_of.refusal = returns-clause-refused c in
     file_told c.args.bytes.now c.in-Err-accepted_of.refusal told
-
-pub returns-in-Ok-accepted_of-clause-core : goal.returns-in-Ok-accepted_of-clause-core
-returns-in-Ok-accepted_of-clause-core c = rw c.in-Ok-accepted_of.ensures.same c.in-Ok.ensures.core
