@@ -1,10 +1,9 @@
 //! The command `compile`.
 use crate::bench::{Faults, NO_FAULTS, run};
+use crate::programs::COUNTER;
 use anvil_tool::Status;
 use std::alloc::{AllocError, Global};
 use std::test::Fail;
-
-const COUNTER: &[u8] = b"proc c() { reg a : logic[8]; loop { set a := *a + 8'd1 >> cycle 2 } }";
 
 const USAGE: &[u8] =
     b"usage: anvil check FILE | compile FILE | run FILE PROC STIM | runsv FILE SV PROC STIM\n";

@@ -12,6 +12,8 @@ mod modules;
 #[cfg(test)]
 mod names;
 #[cfg(test)]
+mod programs;
+#[cfg(test)]
 mod refused;
 #[cfg(test)]
 mod run;

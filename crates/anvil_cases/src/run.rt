@@ -1,15 +1,10 @@
 //! The command `run`: files, stimuli and logs worked out by hand.
 use crate::bench::{Faults, NO_FAULTS, run_on};
+use crate::programs::{CLIENT, COUNTER, ECHO};
 use anvil_tool::Status;
 use std::test::Fail;
 
-const COUNTER: &[u8] = b"proc c() { reg a : logic[8]; loop { set a := *a + 8'd1 >> cycle 2 } }";
-
 const EACH_CYCLE: &[u8] = b"proc c() { reg a : logic[8]; loop { set a := *a + 8'd1 } }";
-
-/// Answers each request with its own data.
-const ECHO: &[u8] =
-    b"chan ch { left req : (logic[8]@res), right res : (logic[8]@#1) }\nproc e(p : left ch) { loop { let x = recv p.req >> send p.res(x) >> cycle 1 } }\n";
 
 const ECHO_LOG: &[u8] =
     b"p.req=v0a1d0 p.res=v0a0d-\np.req=v1a1d7 p.res=v1a0d7\np.req=v0a0d7 p.res=v1a1d7\np.req=v0a1d0 p.res=v0a0d-\n";
@@ -20,10 +15,6 @@ const ECHO_FRONT: &[u8] = b"p.req=v0a1d0 p.res=v0a0d-\np.req=v1a1d7 p.res=v1a0d7
 /// Adds what two partners give, whichever comes first.
 const JOIN: &[u8] =
     b"chan q { left m : (logic[8]@d), right d : (logic[1]@#1) }\nproc j(a : left q, b : left q) { reg r : logic[8]; loop { { let x = recv a.m ; let y = recv b.m ; x >> y >> set r := x + y } >> send a.d(1'd1) >> send b.d(1'd1) >> cycle 1 } }\n";
-
-/// A client of a memory, with a second channel to write back by.
-const CLIENT: &[u8] =
-    b"chan mem { left rd : (logic[16]@rsp), right rsp : (logic[32]@#2) }\nchan wb { left wr : (logic[48]@ok), right ok : (logic[1]@#1) }\nproc client(m : right mem, w : right wb) {\n  reg addr : logic[16]; reg sum : logic[32]; reg out : logic[48];\n  loop { send m.rd(*addr) >> let d = recv m.rsp >> set sum := *sum + d >> set addr := *addr + 16'd4 }\n  loop { set out := cat(*addr, *sum) >> send w.wr(*out) >> let k = recv w.ok >> cycle 8 }\n}\n";
 
 /// What it shows, the file, the process, the stimulus, the status, and what stands on both sinks.
 const RUNS: [(&str, &[u8], &str, &[u8], Status, &[u8], &[u8]); 17] = [

@@ -1,9 +1,8 @@
 //! The command `runsv`: texts of modules and logs worked out by hand, and the texts that `compile` writes against `run`.
 use crate::bench::{Faults, NO_FAULTS, run, run_beside};
+use crate::programs::{CLIENT, COUNTER, ECHO};
 use anvil_tool::Status;
 use std::test::Fail;
-
-const COUNTER: &[u8] = b"proc c() { reg a : logic[8]; loop { set a := *a + 8'd1 >> cycle 2 } }";
 
 /// Its register has another name.
 const RENAMED: &[u8] = b"proc c() { reg b : logic[8]; loop { set b := *b + 8'd1 >> cycle 2 } }";
@@ -19,14 +18,6 @@ const EARLY: &[u8] =
 /// A process that is not the counter, and its register is wider.
 const TWO: &[u8] =
     b"proc c() { reg a : logic[8]; loop { set a := *a + 8'd1 >> cycle 2 } } proc d() { reg a : logic[9]; loop { set a := *a + 9'd1 } }";
-
-/// Answers each request with its own data.
-const ECHO: &[u8] =
-    b"chan ch { left req : (logic[8]@res), right res : (logic[8]@#1) }\nproc e(p : left ch) { loop { let x = recv p.req >> send p.res(x) >> cycle 1 } }\n";
-
-/// A client of a memory, with a second channel to write back by.
-const CLIENT: &[u8] =
-    b"chan mem { left rd : (logic[16]@rsp), right rsp : (logic[32]@#2) }\nchan wb { left wr : (logic[48]@ok), right ok : (logic[1]@#1) }\nproc client(m : right mem, w : right wb) {\n  reg addr : logic[16]; reg sum : logic[32]; reg out : logic[48];\n  loop { send m.rd(*addr) >> let d = recv m.rsp >> set sum := *sum + d >> set addr := *addr + 16'd4 }\n  loop { set out := cat(*addr, *sum) >> send w.wr(*out) >> let k = recv w.ok >> cycle 8 }\n}\n";
 
 /// What it shows, the file, the text, the process, the stimulus, the status, and what stands on both sinks.
 const RUNS: [(&str, &[u8], &[u8], &str, &[u8], Status, &[u8], &[u8]); 12] = [
@@ -190,6 +181,25 @@ fn what_is_compiled_has_the_log_of_its_source(rt: HostRuntime) -> Result<(), Fai
         assert_eq!(rt; module.out.bytes(), source.out.bytes());
         assert_eq!(rt; module.err.bytes(), source.err.bytes());
     }
+    Ok(())
+}
+
+// A client whose partners do nothing for 200 cycles.
+#[test]
+fn a_client_that_waits(rt: HostRuntime) -> Result<(), Fail> {
+    let mut rows = Vec::new(rt.alloc());
+    for _ in 0..200 {
+        rows.extend_from_slice(b"0 0:0 0 0:0\n".as_slice())?;
+    }
+    let made = run(rt.alloc(), &["compile", "f"], CLIENT, NO_FAULTS)?;
+    let words: [&str; 4] = ["run", "f", "client", "s"];
+    let source = run_beside(rt.alloc(), &words, CLIENT, b"", &rows, NO_FAULTS)?;
+    let words: [&str; 5] = ["runsv", "f", "v", "client", "s"];
+    let text = made.out.bytes();
+    let module = run_beside(rt.alloc(), &words, CLIENT, text, &rows, NO_FAULTS)?;
+    assert!(rt; source.status == Status::Done && module.status == Status::Done);
+    assert!(rt; source.out.bytes().len() > 200 * 40);
+    assert_eq!(rt; module.out.bytes(), source.out.bytes());
     Ok(())
 }
 

@@ -11,7 +11,6 @@ use Rattle.run_log.specs.Log.{IsKeptTo}
 use Rattle.run_log.specs.Shown.{Shown}
 use Rattle.stim_text.specs.Answers.{AreRowsOf}
 use Rattle.sv_tree.specs.Module.{Module}
-use Rattle.sv_tree.specs.Text.{IsTextOf}
 use Rattle.sv_lines.proofs.back.TextRead.{one_list}
 use Rattle.sv_lines.proofs.answer.NotEmitted.{emitted_or_not, one_place}
 use Rattle.sv_lines.proofs.begun.Whole.{viable}

@@ -3,40 +3,33 @@
 -- The claim: the text has a module of the name for each process of the name, with its ports and registers; its log is that of the
 -- source run. The argument: the modules stand in the order of the processes and have their names, and each is promised to have the log
 -- of its process, on input lists that fit, as those of a stimulus are.
-use Rattle.std.proofs.Common.{◌≡◌, ◌∙◌, ℕ, suc, ◌<◌, ◌≤◌, Bool, true, false, List, [], ◌∷◌, inl, inr, length, map, get_or, Some, None, refl, ap, sym, subst, arith}
+use Rattle.std.proofs.Common.{◌≡◌, ◌∙◌, ℕ, suc, ◌<◌, Bool, true, false, List, [], ◌∷◌, inl, inr, length, map, get_or, Some, refl, ap, sym, subst, arith}
 use Rattle.std.specs.Prelude.{IsTrue, bytes_eq}
 use Rattle.std.specs.List.{AllZip}
 use Rattle.std.proofs.lemmas.Option.{same_Some}
 use Rattle.channel_classes.specs.Classes.{classes_of}
 use Rattle.core_file.specs.CoreFile.{Placed, core_file}
 use Rattle.core_term.specs.declared.rows.Row.{Row}
-use Rattle.core_term.specs.Breach.{IsFirstBreach, PromisesKept}
-use Rattle.core_term.specs.Fitting.{InputsFit, RowsFit}
+use Rattle.core_term.specs.Breach.{IsFirstBreach}
+use Rattle.core_term.specs.Fitting.{RowsFit}
 use Rattle.core_term.specs.History.{history}
-use Rattle.core_term.specs.Lists.{Has}
-use Rattle.core_term.specs.Outputs.{wires}
 use Rattle.core_term.specs.Process.{Process, Register}
 use Rattle.core_term.specs.Rows.{inputs_of, row_fits}
 use Rattle.core_term.proofs.code_tables.FittingRows.{inputs_fit}
 use Rattle.core_term.proofs.source_runs.Exists.{is_history}
 use Rattle.stim_text.specs.Answers.{AreRowsOf}
 use Rattle.sv_tree.specs.Module.{Module}
-use Rattle.sv_tree.specs.Sources.{source_registers}
 use Rattle.fsm_builder.specs.ModuleOf.{IsModuleOf, source_register}
 use Rattle.machine_meaning.specs.Meaning.{HasSameLog, LogsAlike}
-use Rattle.machine_meaning.specs.ModuleRun.{shown_registers, shown_wires}
-use Rattle.run_log.specs.Log.{IsKeptTo, log_to}
 use Rattle.source_log.specs.Log.{shown_on}
 use Rattle.module_log.specs.Log.{module_shown}
 use Rattle.module_log.specs.SamePorts.{HasPortsOf, of_module, of_process}
-use Rattle.checked_files.specs.Named.{HasProcess, IsProcessOf, process_named}
+use Rattle.checked_files.specs.Named.{IsProcessOf, process_named}
 use Rattle.checked_files.proofs.OneRefusal.{one_file}
-use Rattle.checked_files.proofs.Processes.{same_process}
 use Rattle.anvil_tool.specs.Logs.{IsBrokenLog, IsLog}
 use Rattle.anvil_tool.specs.Output.{IsModule, IsOutput}
-use Rattle.anvil_tool.specs.Run.{IsBrokenRun, IsRunLog}
-use Rattle.anvil_tool.specs.RunModule.{HasModule, IsBrokenModule, IsModuleIn, IsModuleLog, IsPair, module_named}
-use Rattle.anvil_tool.specs.SameLog.{HasOneLog, LogsAreOne}
+use Rattle.anvil_tool.specs.RunModule.{IsPair, module_named}
+use Rattle.anvil_tool.specs.SameLog.{LogsAreOne}
 use Rattle.anvil_tool.proofs.ModuleRuns.{of_pair}
 use Rattle.anvil_tool.proofs.Stimuli.{rows_fit}
 

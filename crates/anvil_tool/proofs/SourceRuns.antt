@@ -13,11 +13,11 @@ use Rattle.stim_text.specs.Answers.{AreRowsOf}
 use Rattle.source_log.specs.Log.{shown_on}
 use Rattle.tool_answers.specs.declared.refusal.Refusal.{Refusal}
 use Rattle.tool_answers.specs.Stages.{AreExact}
-use Rattle.checked_files.specs.Named.{HasProcess, IsProcessOf, IsProcessRefused}
+use Rattle.checked_files.specs.Named.{IsProcessOf}
 use Rattle.checked_files.proofs.Processes.{same_process, process_refused_once, process_or_refused, ports_fit}
 use Rattle.anvil_tool.specs.Logs.{HasRows, IsBrokenLog, IsStimulusRefused}
 use Rattle.anvil_tool.specs.Run.{HasRun, IsBrokenRun, IsTextRefused}
-use Rattle.anvil_tool.specs.Stages.{run_goes_on, run_refuses, run_stages, run_texts}
+use Rattle.anvil_tool.specs.Stages.{run_goes_on, run_refuses, run_stages}
 use Rattle.anvil_tool.proofs.Stimuli.{rows_or_refused, stimulus_refused_once, same_inputs}
 use Rattle.anvil_tool.proofs.Runs.{IsRun, broken_once, kept_or_broken}
 

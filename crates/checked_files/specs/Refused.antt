@@ -1,5 +1,5 @@
 -- Why bytes spell no file, and why a file does not pass its checks.
-use Rattle.std.specs.Prelude.{◌≡◌, ◌⊎◌, ℕ, List, ◌++◌, codes, Some, None}
+use Rattle.std.specs.Prelude.{◌≡◌, ℕ, List, Some, None}
 use Rattle.anvil_lexer.specs.declared.token.Token.{Token}
 use Rattle.anvil_lexer.specs.declared.error.LexErr.{LexErr}
 use Rattle.anvil_lexer.specs.declared.error.LexErr.TheVariants as lexer
@@ -21,7 +21,7 @@ use Rattle.core_term.specs.declared.rules.Rule.TheVariants as rule
 use Rattle.tool_answers.specs.declared.refusal.Code.{Code}
 use Rattle.tool_answers.specs.declared.refusal.Code.TheVariants as code
 use Rattle.tool_answers.specs.declared.refusal.Refusal.{Refusal}
-use Rattle.tool_answers.specs.declared.refusal.Refusal.TheVariants.{Bare, Placed, Paired, Lined, NoMemory}
+use Rattle.tool_answers.specs.declared.refusal.Refusal.TheVariants.{Placed, NoMemory}
 use Rattle.checked_files.specs.FileText.{IsFileText}
 
 -- a fault of the lexer

@@ -3,7 +3,7 @@
 -- The claim: from one stage two ways of loading and going on lead to the same answer. The argument is by both ways together: where
 -- both load, the shelf tells the same bytes, so they reach the same stage; and a stage that refuses does not go on, a load that is
 -- too long gives no bytes, and behind the last stage there is no load.
-use Rattle.std.proofs.Common.{◌≡◌, ℕ, ◌<◌, ◌≤◌, List, [], ◌∷◌, ◌++◌, length, Option, Some, None, refl, sym, ap, ◌∙◌, subst, arith}
+use Rattle.std.proofs.Common.{◌≡◌, ℕ, ◌<◌, ◌≤◌, List, [], ◌∷◌, ◌++◌, length, Option, Some, refl, sym, ap, ◌∙◌, subst, arith}
 use Rattle.command_words.specs.Form.{Load}
 use Rattle.tool_answers.specs.declared.refusal.Refusal.{Refusal}
 use Rattle.tool_answers.specs.declared.status.Status.{Status}

@@ -2,16 +2,15 @@
 --
 -- The claim: of each status so much has to be known, and then all that a call promises holds: what the status tells, and that what
 -- would have to be told otherwise is not so. The argument is that the promises of every other status ask for that status.
-use Rattle.std.proofs.Common.{◌≡◌, ◌≢◌, ◌⊎◌, inl, inr, ℕ, ◌<◌, ◌≤◌, List, [], ◌∷◌, length, Option, IfSome, IfNone, refl, sym, subst, arith}
+use Rattle.std.proofs.Common.{◌≡◌, inl, inr, ℕ, ◌<◌, List, length, IfSome, IfNone, refl, sym, subst, arith}
 use Rattle.std.specs.Io.KnownBytes.{Appends}
 use Rattle.anvil_io.specs.Causes.{AppendsPrefix, GrewPast, Rose}
 use Rattle.command_words.specs.Form.{Load}
 use Rattle.tool_answers.specs.declared.refusal.Refusal.{Refusal}
-use Rattle.tool_answers.specs.declared.status.Status.{Status}
-use Rattle.tool_answers.specs.declared.status.Status.TheVariants.{Done, Refused, Usage, ReadFault, TooLong, WriteFault, Breach, NoMemory}
+use Rattle.tool_answers.specs.declared.status.Status.TheVariants.{Done, Refused, ReadFault, TooLong, WriteFault, Breach, NoMemory}
 use Rattle.tool_answers.specs.Stages.{Stage}
 use Rattle.tool_answers.specs.Lines.{IsLineOf, no_memory_line, read_fault_line, refusal_line, too_long_line}
-use Rattle.tool_answers.specs.Answer.{MayGive, Tells, Asks, IsFirstRefusal, Passes, Ends, Breaks, Overflows, IsLine, of_fault, of_length, of_memory, of_refusal, IsUntouched, HasNoFault, OutFailed, BreachFailed}
+use Rattle.tool_answers.specs.Answer.{MayGive, Tells, Asks, IsFirstRefusal, Passes, Ends, Breaks, Overflows, IsLine, IsUntouched, HasNoFault}
 use Rattle.tool_answers.specs.Answered.{Answered, ShelfSeen, SinkSeen}
 use Rattle.tool_answers.proofs.Ways.{no_rise}
 

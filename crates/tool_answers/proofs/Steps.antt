@@ -3,7 +3,7 @@
 -- The claim: at a stage a load fails, or gives bytes, and then what is promised from the stage behind it is promised from this one;
 -- or the stage refuses, or no memory is found; or behind the last stage a text is put, or stops at a broken promise. The argument is
 -- by the status, with what the ways from the stage lead to.
-use Rattle.std.proofs.Common.{◌≡◌, ◌≢◌, ◌⊎◌, inl, inr, ℕ, ◌<◌, ◌≤◌, List, [], ◌∷◌, ◌++◌, length, Option, IfSome, IfNone, refl, sym, ap, subst, arith}
+use Rattle.std.proofs.Common.{◌≡◌, ◌≢◌, inl, inr, ℕ, ◌<◌, ◌≤◌, List, [], ◌∷◌, length, Option, IfSome, IfNone, refl, sym, ap, subst}
 use Rattle.std.specs.Io.KnownBytes.{Appends}
 use Rattle.std.specs.Prelude.{Err}
 use Rattle.anvil_io.specs.Causes.{AppendsPrefix, FaultHasCause, GrewPast, LengthHasCause, Rose}
@@ -14,10 +14,10 @@ use Rattle.tool_answers.specs.declared.refusal.Refusal.{Refusal}
 use Rattle.tool_answers.specs.declared.refusal.Refusal.TheVariants.{Bare, Placed, Paired, Lined}
 use Rattle.tool_answers.specs.declared.refusal.Refusal.TheVariants as why
 use Rattle.tool_answers.specs.declared.status.Status.{Status}
-use Rattle.tool_answers.specs.declared.status.Status.TheVariants.{Done, Refused, Usage, ReadFault, TooLong, WriteFault, Breach, NoMemory}
+use Rattle.tool_answers.specs.declared.status.Status.TheVariants.{Done, Refused, ReadFault, TooLong, WriteFault, Breach, NoMemory}
 use Rattle.tool_answers.specs.Stages.{AreExact, Stage, Stages, behind}
-use Rattle.tool_answers.specs.Lines.{IsLineOf, no_memory_line, read_fault_line, refusal_line, too_long_line}
-use Rattle.tool_answers.specs.Answer.{MayGive, Tells, Asks, IsFirstRefusal, Passes, Ends, Breaks, Overflows, IsLine, of_fault, of_length, of_memory, of_refusal, HasNoFault, IsUntouched, LineFailed}
+use Rattle.tool_answers.specs.Lines.{no_memory_line, read_fault_line, refusal_line, too_long_line}
+use Rattle.tool_answers.specs.Answer.{MayGive, Tells, Asks, IsFirstRefusal, Passes, Overflows, of_fault, of_length, of_memory, of_refusal, IsUntouched}
 use Rattle.tool_answers.specs.Answered.{Answered, Says, SaysLoad, ShelfSeen, SinkSeen, WriteFailed, shelf_seen, status_of}
 use Rattle.tool_answers.proofs.Ways.{last_passes, last_refusal, last_overflow, last_break, last_ends, refuses_first, refuses_once, refuses_overflow, refuses_passes, loading_asks, loading_refusal, loading_passes, on_line, on_read_fault, on_too_long, on_refused, on_written, on_cut, on_breach, on_breach_cut, back_refusal, back_overflow, back_ends, back_breaks, more_taken, past_or_told, no_rise}
 use Rattle.tool_answers.proofs.Statuses.{line_cut, is_read_fault, is_too_long, is_refused, is_no_memory, is_done, text_cut, is_breach, breach_cut}

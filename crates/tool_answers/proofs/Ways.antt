@@ -2,7 +2,7 @@
 --
 -- The claim: from a stage without loads to come no other is reached; from one with a load to come, itself, or what is reached
 -- from the stage behind the load. So what is known of the stage behind is known of the stage before, and back.
-use Rattle.std.proofs.Common.{◌≡◌, ◌⊎◌, inl, inr, ℕ, ◌<◌, ◌≤◌, List, [], ◌∷◌, ◌++◌, length, Option, Some, None, IfSome, IfNone, refl, sym, ap, subst, ◌∙◌, arith}
+use Rattle.std.proofs.Common.{◌≡◌, ◌⊎◌, inl, inr, ℕ, ◌<◌, ◌≤◌, List, [], ◌∷◌, ◌++◌, length, Option, Some, None, IfSome, IfNone, refl, sym, ap, subst, arith}
 use Rattle.anvil_io.specs.Causes.{GrewPast, Rose}
 use Rattle.command_words.specs.Form.{Load}
 use Rattle.tool_answers.specs.declared.refusal.Refusal.{Refusal}

@@ -1,5 +1,5 @@
 -- All that a call promises of its answer, from the stage on at which it begins.
-use Rattle.std.specs.Prelude.{◌≡◌, ◌≢◌, ◌⊎◌, ℕ, ◌<◌, ◌≤◌, List, Option}
+use Rattle.std.specs.Prelude.{◌≡◌, ◌≢◌, ◌⊎◌, ℕ, ◌<◌, List, Option}
 use Rattle.std.specs.Io.KnownBytes.{Appends}
 use Rattle.anvil_io.specs.Causes.{AppendsPrefix, Rose}
 use Rattle.anvil_io.specs.declared.outside.LoadErr.{LoadErr}

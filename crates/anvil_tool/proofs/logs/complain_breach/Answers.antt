@@ -1,5 +1,5 @@
 -- The port of the number.
-use Rattle.std.proofs.Common.{◌≡◌, length, map, arith}
+use Rattle.std.proofs.Common.{◌≡◌, map}
 use Rattle.core_term.specs.Process.{nth_port}
 use Rattle.core_term.specs.ProcessView.{port_of}
 use Rattle.checked_files.proofs.Processes.{nth_is}

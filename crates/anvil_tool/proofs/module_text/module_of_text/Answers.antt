@@ -1,6 +1,5 @@
 -- The text is of no modules, none has the name, or its ports differ.
 use Rattle.std.proofs.Common.{◌≡◌, ◌∙◌, get_or, None, Some, refl, ap, sym}
-use Rattle.core_term.specs.ProcessView.{process_of}
 use Rattle.sv_tree.specs.Module.{Module}
 use Rattle.anvil_tool.specs.RunModule.{module_named, not_emitted, no_module, other_ports}
 use Rattle.anvil_tool.proofs.module_text.module_of_text.Goals as goal

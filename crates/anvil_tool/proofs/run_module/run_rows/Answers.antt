@@ -1,7 +1,7 @@
 -- The stage refuses, or the log is put: whole, in front, or up to a broken promise.
-use Rattle.std.proofs.Common.{[], ◌∷◌, length, map, refl, arith}
+use Rattle.std.proofs.Common.{[], ◌∷◌, length, refl, arith}
 use Rattle.std.proofs.Math.ListN.{length-map}
-use Rattle.core_term.specs.Process.{Process, nth_port}
+use Rattle.core_term.specs.Process.{nth_port}
 use Rattle.core_term.specs.ProcessView.{port_of, process_of}
 use Rattle.stim_text.specs.Answers.{AreRowsOf}
 use Rattle.run_log.specs.Log.{IsCut, IsNothing, IsStopped, IsWhole, log_to}
