@@ -4,5 +4,8 @@
 #![tactic(auto)]
 
 mod file;
+mod rows;
 
+pub use core_term::Row;
 pub use file::generate;
+pub use rows::{row_of, rows_of};
