@@ -1,5 +1,6 @@
 //! The rows that a process of the generated file is run on.
-ghost use Rattle.std.specs.Prelude.{◌≡◌, ◌<◌, ◌++◌, ◌∷◌, [], IfOk, map};
+ghost use Rattle.std.specs.Prelude.{◌≡◌, ◌<◌, ◌+◌, ◌++◌, ◌∷◌, [], IfOk, codes, decimal, map};
+ghost use Rattle.core_term.specs.StimulusText.{row_text};
 ghost use Rattle.generated_file.specs.Rows.{cells_of, row_of, rows_of};
 
 use anvil_bits::Bits;
@@ -13,7 +14,8 @@ const CYCLES: u32 = 100;
 /// Refuses only where memory is refused.
 pub fn row_of(alloc: Global, index: u32) -> Result<Row, AllocError>
     requires { index < 64 }
-    ensures { IfOk result (λ row. row.cells.items ≡ row_of index) }
+    ensures cells { IfOk result (λ row. row.cells.items ≡ row_of index) }
+    ensures text { IfOk result (λ row. row_text row.cells.items ≡ codes "1:" ++ (decimal (index + 1) ++ codes " 1")) }
 {
     let mut cells = Vec::new(alloc);
     cells.push(InCell::Received {
