@@ -1,10 +1,8 @@
--- The counts of one cycle more, and of a row of zeros.
-use Rattle.std.proofs.Common.{◌≡◌, ◌+◌, ◌∷◌, ℕ, suc, List, [], map, refl, ap, arith}
-use Rattle.std.specs.List.{sum_by}
-use Rattle.core_term.specs.Process.{Process, Register}
-use Rattle.core_term.specs.Rows.{zero_register}
+-- The counts of one cycle more.
+use Rattle.std.proofs.Common.{◌≡◌, ◌+◌, ℕ, suc, ap, arith}
+use Rattle.core_term.specs.Process.{Process}
 use Rattle.run_log.specs.Shown.{Shown}
-use Rattle.run_counts.specs.Counts.{exchanges_at, exchanges_in, registers_at, registers_last, shown_value}
+use Rattle.run_counts.specs.Counts.{exchanges_at, exchanges_in, registers_at, registers_last}
 
 pub exchanges_more : (p : Process) (seen : Shown) (n : ℕ) → exchanges_in p seen (n + 1) ≡ exchanges_in p seen n + exchanges_at seen n 0 p.ports
 exchanges_more p seen n =
@@ -15,7 +13,3 @@ pub last_more : (p : Process) (seen : Shown) (n : ℕ) → registers_last p seen
 last_more p seen n =
     let next : n + 1 ≡ suc n = omega arith in
     ap (registers_last p seen) next
-
-pub zeros : (registers : List Register) → sum_by shown_value (map zero_register registers) ≡ 0
-zeros [] = refl
-zeros (register ∷ registers) = zeros registers

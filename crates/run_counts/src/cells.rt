@@ -1,7 +1,7 @@
 //! What is counted of the cells and the registers of one cycle.
 ghost use Rattle.std.specs.Prelude.{◌≡◌, ◌≤◌, length};
 ghost use Rattle.std.specs.List.{sum_by};
-ghost use Rattle.core_term.specs.Limits.{most_ports, most_registers};
+ghost use Rattle.core_term.specs.Limits.{most_ports};
 ghost use Rattle.run_counts.specs.Counts.{shown_value};
 ghost use Rattle.run_counts.specs.Cells.{is_met, meetings};
 
@@ -42,7 +42,6 @@ pub(crate) fn count_met(came: &[InCell], goes: &[OutCell]) -> u64
 
 /// The sum of what the registers show.
 pub(crate) fn sum_of(numbers: &[Bits]) -> u128
-    requires few { length numbers.now ≤ most_registers }
     ensures { result ≡ sum_by shown_value numbers.now }
 {
     let mut sum: u128 = 0;

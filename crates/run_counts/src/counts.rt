@@ -1,6 +1,6 @@
 //! The counts of a module of a process on rows.
 ghost use Rattle.std.specs.Prelude.{◌≡◌, ◌≤◌, ◌<◌, ◌+◌, IfOk, List, ℕ, IsTrue, length, get_or, map};
-ghost use Rattle.std.specs.List.{All, sum_by};
+ghost use Rattle.std.specs.List.{All};
 ghost use Rattle.core_term.specs.declared.rows.Row.{Row as RowSeen};
 ghost use Rattle.core_term.specs.Limits.{most_ports};
 ghost use Rattle.core_term.specs.ProcessView.{port_of, process_of};
@@ -11,7 +11,7 @@ ghost use Rattle.module_log.specs.Stands.{IsMachineOf, StandsBefore};
 ghost use Rattle.run_log.specs.Places.{HasPlaces};
 ghost use Rattle.run_log.specs.Shown.{Shown};
 ghost use Rattle.stim_text.specs.Answers.{most_rows};
-ghost use Rattle.run_counts.specs.Counts.{counts_of, exchanges_at, shown_value};
+ghost use Rattle.run_counts.specs.Counts.{counts_of, exchanges_at};
 
 use crate::cells::{count_met, sum_of};
 use core_term::{CoreProc, OutRow, Row};
@@ -57,7 +57,7 @@ fn count_cycle(proc: &CoreProc, row: &Row, machine: &mut Machine, shown: &mut Ou
     count_met(row.cells.as_slice(), shown.cells.as_slice())
 }
 
-/// Counts the rows: `shown` is a row of zeros.
+/// Counts the rows: each is shown in `shown`.
 fn count_rows(proc: &CoreProc, rows: &[Row], machine: &mut Machine, shown: &mut OutRow) -> Counts
     requires few { length rows.now ≤ most_rows }
     requires fit { All (λ row. IsTrue (row_fits (map port_of proc.now.ports.items) row)) rows.now }
@@ -65,7 +65,6 @@ fn count_rows(proc: &CoreProc, rows: &[Row], machine: &mut Machine, shown: &mut 
         (process_of proc.now.name proc.now.ports.items proc.now.regs.items proc.now.threads.items) machine.old }
     requires places { HasPlaces
         (process_of proc.now.name proc.now.ports.items proc.now.regs.items proc.now.threads.items) shown.old }
-    requires zeros { sum_by shown_value shown.old.regs.items ≡ 0 }
     ensures { (seen : Shown)
         → StandsBefore (process_of proc.now.name proc.now.ports.items proc.now.regs.items proc.now.threads.items)
         machine.old rows.now seen 0
@@ -73,12 +72,14 @@ fn count_rows(proc: &CoreProc, rows: &[Row], machine: &mut Machine, shown: &mut 
         seen (length rows.now) }
 {
     let mut exchanges: u64 = 0;
+    let mut registers: u128 = 0;
     for index in 0..rows.len() {
         exchanges += count_cycle(proc, &rows[index], machine, shown);
+        registers = sum_of(shown.regs.as_slice());
     }
     Counts {
         exchanges,
-        registers: sum_of(shown.regs.as_slice()),
+        registers,
     }
 }
 

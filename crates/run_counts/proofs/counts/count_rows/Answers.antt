@@ -1,11 +1,8 @@
 -- One cycle more, and all of them.
-use Rattle.std.proofs.Common.{◌≡◌, ◌∙◌, ◌+◌, ◌≤◌, length, subst, sym, ap, arith}
+use Rattle.std.proofs.Common.{◌≡◌, ◌∙◌, ◌+◌, length, sym, ap, arith}
 use Rattle.std.specs.List.{sum_by}
-use Rattle.std.proofs.Math.ListN.{length-map}
-use Rattle.core_term.specs.Limits.{most_registers}
-use Rattle.core_term.specs.ProcessView.{process_of, register_of}
+use Rattle.core_term.specs.ProcessView.{process_of}
 use Rattle.run_counts.specs.Counts.{exchanges_in, registers_last, shown_value}
-use Rattle.run_counts.proofs.Few.{few_registers}
 use Rattle.run_counts.proofs.More.{exchanges_more, last_more}
 use Rattle.run_counts.proofs.counts.count_rows.Goals as goal
 
@@ -24,18 +21,9 @@ loop-index-preserved c =
           let registers = c.count_cycle-exchanges.ensures.registers c.args.rows.now seen n (omega arith) c.index-rows-index.is stands in (
             c.count_cycle-exchanges.ensures.stands c.args.rows.now seen n (omega arith) c.index-rows-index.is stands,
             (λ i. counted i + here i) ∙ sym (exchanges_more p seen n),
-            ap (sum_by shown_value) registers ∙ sym (last_more p seen n),
+            c.sum_of-registers.ensures ∙ (ap (sum_by shown_value) (c.as_slice.ensures.value ∙ registers) ∙ sym (last_more p seen n)),
           ),
     )
-
-pub sum_of-requires : goal.sum_of-requires
-sum_of-requires c =
-    let proc = c.args.proc.now in
-    let (ready, places, few, so_far) = c.loop-index.invariant in
-    let long = ap length c.as_slice.ensures.value ∙ (places.1 ∙ length-map proc.regs.items register_of) in
-    record {
-      few = subst (λ count. count ≤ most_registers) (sym long) (few_registers proc.name proc.ports.items proc.regs.items proc.threads.items proc.sized);
-    }
 
 pub returns : goal.returns
 returns c = λ seen starts.
@@ -44,5 +32,5 @@ returns c = λ seen starts.
     let (stands, counted, last) = so_far seen starts in
     let all : c.loop-index.index ≡ length c.args.rows.now = omega arith in
     let exchanges = counted ∙ ap (exchanges_in p seen) all in
-    let registers = c.sum_of.ensures ∙ (ap (sum_by shown_value) c.as_slice.ensures.value ∙ (last ∙ ap (registers_last p seen) all)) in
+    let registers = last ∙ ap (registers_last p seen) all in
     λ i. record { exchanges = exchanges i; registers = registers i }

@@ -1,12 +1,11 @@
--- The machine stands after the rows so far, and their exchanges were counted; the row shows the cycle before.
+-- The machine stands after the rows so far, and their exchanges and the registers of the last one were counted.
 use Rattle.std.proofs.Common.{◌≡◌, ◌≤◌, ◌*◌}
-use Rattle.std.specs.List.{sum_by}
 use Rattle.core_term.specs.Limits.{most_ports}
 use Rattle.core_term.specs.ProcessView.{process_of}
 use Rattle.module_log.specs.Stands.{IsMachineOf, StandsBefore}
 use Rattle.run_log.specs.Places.{HasPlaces}
 use Rattle.run_log.specs.Shown.{Shown}
-use Rattle.run_counts.specs.Counts.{exchanges_in, registers_last, shown_value}
+use Rattle.run_counts.specs.Counts.{exchanges_in, registers_last}
 use Rattle.run_counts.proofs.counts.count_rows.Given as goal
 
 abbrev pub invariant-loop-index : goal.invariant-loop-index
@@ -18,5 +17,4 @@ invariant-loop-index l =
     → StandsBefore (process_of l.fn.proc.name l.fn.proc.ports.items l.fn.proc.regs.items l.fn.proc.threads.items) l.fn.machine l.fn.rows seen 0
     → StandsBefore (process_of l.fn.proc.name l.fn.proc.ports.items l.fn.proc.regs.items l.fn.proc.threads.items) l.machine l.fn.rows seen l.index
     × (l.exchanges ≡ exchanges_in (process_of l.fn.proc.name l.fn.proc.ports.items l.fn.proc.regs.items l.fn.proc.threads.items) seen l.index)
-    × (sum_by shown_value l.shown.regs.items
-    ≡ registers_last (process_of l.fn.proc.name l.fn.proc.ports.items l.fn.proc.regs.items l.fn.proc.threads.items) seen l.index))
+    × (l.registers ≡ registers_last (process_of l.fn.proc.name l.fn.proc.ports.items l.fn.proc.regs.items l.fn.proc.threads.items) seen l.index))
