@@ -1,6 +1,6 @@
 //! The command `check`: files that keep the timing rules, and for each rule files that break it, with the places of both acts. Answers
 //! and places are worked out by hand from the rules.
-use crate::bench::{Faults, NO_FAULTS, run};
+use crate::bench::{NO_FAULTS, run};
 use anvil_tool::Status;
 use std::test::Fail;
 
@@ -142,28 +142,5 @@ fn compile_and_run_refuse_them_with_the_same_line(rt: HostRuntime) -> Result<(),
             assert_eq!(rt; ran.err.bytes(), line.as_bytes(), "{what}");
         }
     }
-    Ok(())
-}
-
-#[test]
-fn the_line_of_an_accepted_file_cannot_be_put(rt: HostRuntime) -> Result<(), Fail> {
-    let faults = Faults {
-        loads: &[],
-        outs: &[0],
-        errs: &[],
-    };
-    let end = run(rt.alloc(), &["check", "f"], b"", faults)?;
-    assert!(rt; end.status == Status::WriteFault);
-    assert!(rt; b"accepted\n".starts_with(end.out.bytes()));
-    assert_eq!(rt; end.err.bytes(), b"".as_slice());
-    Ok(())
-}
-
-#[test]
-fn a_file_that_is_not_there(rt: HostRuntime) -> Result<(), Fail> {
-    let end = run(rt.alloc(), &["check", "none"], b"", NO_FAULTS)?;
-    assert!(rt; end.status == Status::ReadFault);
-    assert_eq!(rt; end.out.bytes(), b"".as_slice());
-    assert_eq!(rt; end.err.bytes(), b"read fault: none\n".as_slice());
     Ok(())
 }

@@ -1,5 +1,5 @@
 //! The command `compile`.
-use crate::bench::{Faults, NO_FAULTS, run};
+use crate::bench::{NO_FAULTS, run};
 use crate::programs::COUNTER;
 use anvil_tool::Status;
 use std::alloc::{AllocError, Global};
@@ -265,74 +265,4 @@ fn counter(alloc: Global, number: u8) -> Result<Vec<u8>, AllocError> {
         "proc p{number}() {{ reg a : logic[8]; loop {{ set a := *a + 8'd{number} >> cycle 2 }} }}\n"
     )?;
     Vec::from_slice(alloc, text.as_bytes())
-}
-
-#[test]
-fn loads_that_fail(rt: HostRuntime) -> Result<(), Fail> {
-    let absent = run(rt.alloc(), &["compile", "none"], COUNTER, NO_FAULTS)?;
-    assert!(rt; absent.status == Status::ReadFault);
-    assert_eq!(rt; absent.err.bytes(), b"read fault: none\n".as_slice());
-    let faults = Faults {
-        loads: &[0],
-        outs: &[],
-        errs: &[],
-    };
-    let failed = run(rt.alloc(), &["compile", "f"], COUNTER, faults)?;
-    assert!(rt; failed.status == Status::ReadFault);
-    assert_eq!(rt; failed.out.bytes(), b"".as_slice());
-    assert_eq!(rt; failed.err.bytes(), b"read fault: f\n".as_slice());
-    let spaces = Vec::from_elem(rt.alloc(), b' ', 1048577)?;
-    let long = run(rt.alloc(), &["compile", "f"], &spaces, NO_FAULTS)?;
-    assert!(rt; long.status == Status::TooLong);
-    assert_eq!(rt; long.err.bytes(), b"too long: f\n".as_slice());
-    let full = run(rt.alloc(), &["compile", "f"], &spaces[1..], NO_FAULTS)?;
-    assert!(rt; full.status == Status::Done);
-    assert_eq!(rt; full.out.bytes(), b"".as_slice());
-    assert_eq!(rt; full.err.bytes(), b"".as_slice());
-    Ok(())
-}
-
-// The module goes to `out` in many puts. Whichever of them fails, a front part of it stands there, and nothing on `err`.
-#[test]
-fn each_put_fails_in_turn(rt: HostRuntime) -> Result<(), Fail> {
-    let whole = run(rt.alloc(), &["compile", "f"], COUNTER, NO_FAULTS)?;
-    assert!(rt; whole.status == Status::Done);
-    let mut failed = 0u32;
-    for number in 0..10000u32 {
-        let faults = Faults {
-            loads: &[],
-            outs: &[number],
-            errs: &[],
-        };
-        let end = run(rt.alloc(), &["compile", "f"], COUNTER, faults)?;
-        if end.status == Status::Done {
-            break;
-        }
-        assert!(rt; end.status == Status::WriteFault);
-        assert!(rt;
-            whole.out.bytes().starts_with(end.out.bytes()),
-            "put {number}"
-        );
-        assert_eq!(rt; end.err.bytes(), b"".as_slice());
-        failed = number + 1;
-    }
-    assert!(rt; failed > 40 && failed < 10000);
-    Ok(())
-}
-
-#[test]
-fn the_put_of_a_line_fails(rt: HostRuntime) -> Result<(), Fail> {
-    let faults = Faults {
-        loads: &[],
-        outs: &[],
-        errs: &[0],
-    };
-    let usage = run(rt.alloc(), &["help"], COUNTER, faults)?;
-    assert!(rt; usage.status == Status::WriteFault);
-    assert_eq!(rt; usage.out.bytes(), b"".as_slice());
-    assert_eq!(rt;
-        usage.err.bytes(),
-        b"usage: anvil check FILE | compile FILE | ru".as_slice()
-    );
-    Ok(())
 }

@@ -8,7 +8,11 @@ mod check;
 #[cfg(test)]
 mod compile;
 #[cfg(test)]
-mod modules;
+mod edges;
+#[cfg(test)]
+mod faults;
+#[cfg(test)]
+mod limits;
 #[cfg(test)]
 mod names;
 #[cfg(test)]
@@ -19,3 +23,5 @@ mod refused;
 mod run;
 #[cfg(test)]
 mod run_module;
+#[cfg(test)]
+mod tables;

@@ -3,24 +3,10 @@
 //! A row of a table is what it shows, a part of a file, and the answer, with ` ~ ` between. The answer is what stands behind `refused: `, or
 //! `compiled` where the file passes every check.
 use crate::bench::{NO_FAULTS, run};
+use crate::tables::case_of;
 use anvil_tool::Status;
 use std::alloc::{AllocError, Global};
 use std::test::Fail;
-
-/// A row of a table.
-#[derive(Clone, Copy)]
-struct Case<'a> {
-    what: &'a str,
-    part: &'a str,
-    answer: &'a str,
-}
-
-// The case of a row, where it is one.
-fn case_of(row: &str) -> Option<Case<'_>> {
-    let (what, rest) = row.split_once(" ~ ")?;
-    let (part, answer) = rest.split_once(" ~ ")?;
-    Some(Case { what, part, answer })
-}
 
 // Parts of a file, one after the other.
 fn joined(alloc: Global, parts: &[&str]) -> Result<Vec<u8>, AllocError> {

@@ -1,18 +1,14 @@
 //! Files that the lexer or the parser refuses, and the place in each line; and files at their limits. Places are counted by hand.
 use crate::bench::{NO_FAULTS, run};
+use crate::programs::CLIENT;
 use anvil_tool::Status;
 use std::alloc::{AllocError, Global};
-use std::str;
 use std::test::Fail;
 
 /// A file up to the value that is set: 45 bytes and two open brackets.
 const SET: &[u8] = b"proc d() { reg a : logic[8]; loop { set a := ";
 
 const END: &[u8] = b" } }";
-
-/// A client of a memory, with a second channel to write back by.
-const CLIENT: &[u8] =
-    b"chan mem { left rd : (logic[16]@rsp), right rsp : (logic[32]@#2) }\nchan wb { left wr : (logic[48]@ok), right ok : (logic[1]@#1) }\nproc client(m : right mem, w : right wb) {\n  reg addr : logic[16]; reg sum : logic[32]; reg out : logic[48];\n  loop { send m.rd(*addr) >> let d = recv m.rsp >> set sum := *sum + d >> set addr := *addr + 16'd4 }\n  loop { set out := cat(*addr, *sum) >> send w.wr(*out) >> let k = recv w.ok >> cycle 8 }\n}\n";
 
 // A text of parts, each so many times.
 fn text_of(alloc: Global, parts: &[(&[u8], usize)]) -> Result<Vec<u8>, AllocError> {
@@ -23,20 +19,6 @@ fn text_of(alloc: Global, parts: &[(&[u8], usize)]) -> Result<Vec<u8>, AllocErro
         }
     }
     Ok(text)
-}
-
-// The place that a line ends with.
-fn place_of(line: &[u8]) -> Option<usize> {
-    let Ok(text) = str::from_utf8(line) else {
-        return None;
-    };
-    let Some(text) = text.strip_suffix("\n") else {
-        return None;
-    };
-    let Some((_, place)) = text.rsplit_once(" at ") else {
-        return None;
-    };
-    place.parse::<usize>().ok()
 }
 
 /// Files as parts, each so many times, and the line that tells their refusal.
@@ -139,29 +121,6 @@ fn files_at_a_limit_are_compiled(rt: HostRuntime) -> Result<(), Fail> {
         assert!(rt; done.out.bytes().starts_with(*header), "{name}");
         assert_eq!(rt; done.err.bytes(), b"".as_slice());
     }
-    Ok(())
-}
-
-// A file that is cut short is refused at a place within it, unless what is left is some items.
-#[test]
-fn a_file_cut_short(rt: HostRuntime) -> Result<(), Fail> {
-    let mut whole = 0u32;
-    for length in 0..CLIENT.len() {
-        let cut = run(rt.alloc(), &["compile", "f"], &CLIENT[..length], NO_FAULTS)?;
-        let modules = cut.out.bytes();
-        if cut.status == Status::Done {
-            let client = modules.starts_with(b"module anvil__client (\n");
-            assert!(rt; modules.is_empty() || client, "{length}");
-            whole = whole.saturating_add(1);
-        } else {
-            assert!(rt; cut.status == Status::Refused, "{length}");
-            assert_eq!(rt; modules, b"".as_slice());
-            let within = place_of(cut.err.bytes()).is_some_and(|place| place <= length);
-            assert!(rt; within, "{length}");
-        }
-    }
-    // Nothing; one class, without and with the line feed after it; both classes; all but the last line feed.
-    assert_eq!(rt; whole, 6);
     Ok(())
 }
 
