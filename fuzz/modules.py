@@ -3,9 +3,7 @@
 What such a module shows on a stimulus is worked out here too, by the rules of that page and apart from the program.
 """
 
-BINARY = {"+": lambda a, b: a + b, "-": lambda a, b: a - b, "*": lambda a, b: a * b, "&": lambda a, b: a & b, "|": lambda a, b: a | b,
-          "^": lambda a, b: a ^ b, "==": lambda a, b: a == b, "!=": lambda a, b: a != b, "<": lambda a, b: a < b,
-          "<=": lambda a, b: a <= b, ">": lambda a, b: a > b, ">=": lambda a, b: a >= b}
+from runs import BINARY, Watch, rows_of
 
 
 class Module:
@@ -101,53 +99,32 @@ class Module:
     def log(self, stimulus):
         """The log of the module on rows, and the line of the first broken promise, or none."""
         now = {name: value_of(literal, {}) for name, literal in self.resets.items()}
-        lives = {index: [] for index in range(len(self.process.ports))}  # of each port the exchanges whose life goes on
-        lines = []
-        rows = stimulus.replace(b"\r\n", b"\n").decode().split("\n")
-        if rows[-1] == "":
-            rows.pop()
-        for cycle, row in enumerate(rows):
-            values = dict(now)
-            self.inputs(row, values)
+        watch, lines = Watch(self.process), []
+        for cycle, inputs in enumerate(rows_of(self.process, stimulus)):
+            values = {**now, **self.given(inputs)}
             for name, width, _, operands, meaning in self.nets:
                 values[name] = int(meaning(*(value_of(operand, values) for operand in operands))) & ((1 << width) - 1)
             for wire, operand in self.outputs.items():
                 values[wire] = value_of(operand, values)
-            line, broken = self.seen(cycle, values, lives)
+            wires = {(endpoint, message.name): tuple(values[f"{endpoint}__{message.name}__{wire}"] for wire in ("valid", "ack", "data"))
+                     for endpoint, message, _ in self.process.ports}
+            line, broken = watch.line(cycle, wires, {name: values[name + "__q"] for name, _ in self.process.registers})
             if broken:
                 return "".join(lines).encode(), f"breach: cycle {cycle} port {broken}\n".encode()
-            lines.append(line + "\n")
+            lines.append(line)
             now = {name: value_of(operand, values) for name, operand in self.nexts.items()}
         return "".join(lines).encode(), b""
 
-    def inputs(self, row, values):
-        for (endpoint, message, received), field in zip(self.process.ports, row.split(" ")):
+    def given(self, inputs):
+        """The values of the input ports."""
+        values = {}
+        for endpoint, message, received in self.process.ports:
             base = f"{endpoint}__{message.name}__"
             if received:
-                values[base + "valid"], values[base + "data"] = (int(part) for part in field.split(":"))
+                values[base + "valid"], values[base + "data"] = inputs[endpoint, message.name]
             else:
-                values[base + "ack"] = int(field)
-
-    def seen(self, cycle, values, lives):
-        """The line of a cycle, and the first port whose promise is broken in it."""
-        parts, broken, exchanged = [], None, set()
-        for endpoint, message, _ in self.process.ports:
-            base = f"{endpoint}__{message.name}__"
-            if values[base + "valid"] and values[base + "ack"]:
-                exchanged.add((endpoint, message.name))
-        for index, (endpoint, message, received) in enumerate(self.process.ports):
-            base = f"{endpoint}__{message.name}__"
-            valid, ack, data = (values[base + wire] for wire in ("valid", "ack", "data"))
-            if (endpoint, message.name) in exchanged:
-                lives[index].append((data, None if message.until else cycle + message.cycles - 1))
-            if received and any(kept != data for kept, _ in lives[index]):
-                broken = broken or f"{endpoint}.{message.name}"
-            shown = data if received or valid or lives[index] else "-"
-            parts.append(f"{endpoint}.{message.name}=v{valid}a{ack}d{shown}")
-            over = (lambda last: (endpoint, message.until) in exchanged) if message.until else (lambda last: last <= cycle)
-            lives[index] = [one for one in lives[index] if not over(one[1])]
-        parts += [f"{name}={values[name + '__q']}" for name, _ in self.process.registers]
-        return " ".join(parts), broken
+                values[base + "ack"] = inputs[endpoint, message.name][0]
+        return values
 
 
 def value_of(operand, values):

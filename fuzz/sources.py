@@ -19,10 +19,10 @@ class Message:
 
 
 class Process:
-    """The name, the ports as (endpoint, message, received), the registers as (name, width), and the text."""
+    """The name, the ports as (endpoint, message, received), the registers as (name, width), their resets, the threads and the text."""
 
     def __init__(self, name):
-        self.name, self.ports, self.registers, self.text = name, [], [], ""
+        self.name, self.ports, self.registers, self.resets, self.threads, self.text = name, [], [], {}, [], ""
 
 
 def width_of(random):
@@ -369,18 +369,18 @@ class Source:
         process.registers = [(f"r{index}", width_of(random)) for index in range(random.randint(0, 5))]
         registers = ""
         for name, width in process.registers:
-            reset = f" = {width}'d{random.getrandbits(width)}" if random.random() < 0.3 else ""
+            process.resets[name] = random.getrandbits(width) if random.random() < 0.3 else 0
+            reset = f" = {width}'d{process.resets[name]}" if process.resets[name] else ""
             registers += f"reg {name} : logic[{width}]{reset}; "
         count = random.choice([1, 1, 2, 3])
         owner = {name: random.randrange(count) for name, _ in process.registers}
         holder = {name: random.randrange(count) for name, _, _, _ in endpoints}
-        threads = []
         for index in range(count):
             mine = [(name, messages, (lambda left: lambda message: message.left == left)(left))
                     for name, _, messages, left in endpoints if holder[name] == index]
             own = [pair for pair in process.registers if owner[pair[0]] == index]
             others = [pair for pair in process.registers if owner[pair[0]] != index]
-            threads.append(Thread(random, self.care, mine, own, others).text())
+            process.threads.append(Thread(random, self.care, mine, own, others).text())
         heads = ", ".join(f"{name} : {'left' if left else 'right'} {kind}" for name, kind, _, left in endpoints)
-        process.text = f"proc {process.name}({heads}) {{ {registers}{' '.join(threads)} }}"
+        process.text = f"proc {process.name}({heads}) {{ {registers}{' '.join(process.threads)} }}"
         return process
