@@ -24,7 +24,7 @@ struct Call<'a> {
 
 const TWO_SETS: &[u8] = b"proc t() { reg a : logic[8]; loop { set a := 8'd1 ; set a := 8'd2 } }";
 
-const CALLS: [Call<'static>; 17] = [
+const CALLS: [Call<'static>; 18] = [
     Call {
         what: "check of an echo",
         words: &["check", "f"],
@@ -57,6 +57,17 @@ const CALLS: [Call<'static>; 17] = [
         status: Status::Refused,
         shows: false,
         err: b"refused: V3 at 36 and 52\n",
+    },
+    Call {
+        what: "check of bytes that are no UTF-8",
+        words: &["check", "f"],
+        file: b"proc\xff",
+        text: Some(b""),
+        stimulus: b"",
+        loads: &["f"],
+        status: Status::Refused,
+        shows: false,
+        err: b"refused: NotUtf8 at 4\n",
     },
     Call {
         what: "check of an absent file",

@@ -18,8 +18,6 @@ mod names;
 #[cfg(test)]
 mod programs;
 #[cfg(test)]
-mod refused;
-#[cfg(test)]
 mod run;
 #[cfg(test)]
 mod run_module;

@@ -6,8 +6,22 @@ use anvil_tool::Status;
 use std::str;
 use std::test::Fail;
 
-/// What it shows, a file, and what `check` tells of it on `err`, or `accepted`.
+/// What it shows, a file, and what is told of it on `err`, or `accepted`.
 const FILES: &str = "\
+an empty file ~  ~ accepted
+a comment ~ // nothing ~ accepted
+blanks ~  \t\r↵ ~ accepted
+a character that begins no token ~ proc c() { ! } ~ refused: BadChar at 11
+digits before letters ~ proc c() { reg a : logic[8bit]; } ~ refused: BadNumber at 25
+a parenthesis that is not closed ~ proc c( { } ~ refused: Unexpected at 8
+a brace that is not closed ~ proc c() { ~ refused: Unexpected at 10
+a keyword as a name ~ proc loop() { } ~ refused: Unexpected at 5
+the lexer's fault comes first, though it stands later ~ proc c( { } ! ~ refused: BadChar at 12
+the greatest width, sum and wait ~ \
+    proc c() { reg a : logic[64]; loop { set a := *a + 64'd18446744073709551615 >> cycle 65535 } } ~ accepted
+the least width and wait ~ proc c() { reg a : logic[1]; loop { set a := *a + 1'd0 >> cycle 1 } } ~ accepted
+names of 64 bytes and of three kinds ~ \
+    proc «64×b»() { reg Z_9 : logic[8]; loop { set Z_9 := *Z_9 + 8'd1 >> cycle 2 } } ~ accepted
 a file of 2^20 bytes ~ «1048576× » ~ accepted
 a file of one byte more ~ «1048577× » ~ too long: f
 a name of 64 bytes ~ proc «64×a»() { } ~ accepted
@@ -37,6 +51,9 @@ a name of 65 bytes ~ proc «65×a»() { } ~ refused: LongName at 5
 64 messages ~ chan k { «64×left m% : (logic[1]@#1), »} ~ accepted
 65 messages ~ chan k { «65×left m% : (logic[1]@#1), »} ~ refused: TooMany at 1663
 64 ports ~ chan k { «32×left m% : (logic[1]@#1), »} proc e(p : left k, q : left k) { loop { cycle 1 } } ~ accepted
+65 ports ~ \
+    chan k { «32×left m% : (logic[1]@#1), »left n : (logic[1]@#1) } \
+    proc e(p : left k, q : left k) { loop { cycle 1 } } ~ refused: TooManyPorts at 875
 a width of 64 ~ chan w { left m : (logic[64]@#1) } ~ accepted
 a width of 65 ~ chan w { left m : (logic[65]@#1) } ~ refused: BadWidth at 25
 a width of no bits ~ chan w { left m : (logic[0]@#1) } ~ refused: BadWidth at 25
@@ -60,7 +77,7 @@ a life of a cycle more ~ \
     «100×{ cycle 1 ; cycle 1 } >> »cycle 1 } } ~ refused: V5 at 83 and 83
 ";
 
-// `check` and `compile` tell the same of each file, and put nothing to `out` where they refuse it.
+// `check` and `compile` tell the same of each file, and put nothing to `out` where they refuse it. Modules are written for processes alone.
 #[test]
 fn files_at_each_limit_and_past_it(rt: HostRuntime) -> Result<(), Fail> {
     let mut rows = 0u32;
@@ -79,6 +96,13 @@ fn files_at_each_limit_and_past_it(rt: HostRuntime) -> Result<(), Fail> {
             assert!(rt; checked.status == Status::Done, "{row}");
             assert_eq!(rt; checked.out.bytes(), line.as_bytes(), "{row}");
             assert!(rt; checked.err.bytes().is_empty() && compiled.err.bytes().is_empty());
+            let modules = compiled.out.bytes();
+            if case.part.split_once("proc ").is_some() {
+                assert!(rt; modules.starts_with(b"module anvil__"), "{row}");
+                assert!(rt; modules.ends_with(b"\nendmodule\n"), "{row}");
+            } else {
+                assert!(rt; modules.is_empty(), "{row}");
+            }
             continue;
         }
         let long = case.answer.starts_with("too long");
@@ -92,7 +116,7 @@ fn files_at_each_limit_and_past_it(rt: HostRuntime) -> Result<(), Fail> {
         assert_eq!(rt; checked.err.bytes(), line.as_bytes(), "{row}");
         assert_eq!(rt; compiled.err.bytes(), line.as_bytes(), "{row}");
     }
-    assert_eq!(rt; rows, 44);
+    assert_eq!(rt; rows, 57);
     Ok(())
 }
 

@@ -168,21 +168,3 @@ fn each_check_refuses(rt: HostRuntime) -> Result<(), Fail> {
     assert_eq!(rt; rows, 84);
     Ok(())
 }
-
-// A class of 33 messages, of which a process has two endpoints: the second makes the 65th port.
-#[test]
-fn the_65th_port_is_one_too_many(rt: HostRuntime) -> Result<(), Fail> {
-    let mut text = String::from_str(rt.alloc(), "chan b { left m : (logic[1]@#1)")?;
-    for number in 1..33u8 {
-        let message = format!(in rt.alloc(); ", left m{number} : (logic[1]@#1)")?;
-        text.push_str(&message)?;
-    }
-    text.push_str(" } proc e(p : left b, q : left b) { loop { cycle 1 } }")?;
-    let refused = run(rt.alloc(), &["compile", "f"], text.as_bytes(), NO_FAULTS)?;
-    assert!(rt; refused.status == Status::Refused);
-    assert_eq!(rt;
-        refused.err.bytes(),
-        b"refused: TooManyPorts at 876\n".as_slice()
-    );
-    Ok(())
-}

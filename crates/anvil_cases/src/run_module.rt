@@ -1,6 +1,7 @@
 //! The command `runsv`: texts of modules and logs worked out by hand, and the texts that `compile` writes against `run`.
 use crate::bench::{NO_FAULTS, run, run_beside};
 use crate::programs::{CLIENT, COUNTER, EACH_CYCLE, ECHO, JOIN, MODULE, TOGETHER};
+use crate::tables::expanded;
 use anvil_tool::Status;
 use std::str;
 use std::test::Fail;
@@ -143,25 +144,33 @@ fn modules_run_as_they_should(rt: HostRuntime) -> Result<(), Fail> {
     Ok(())
 }
 
-/// What it shows, the file, the process and the stimulus.
-const PAIRS: [(&str, &[u8], &str, &[u8]); 15] = [
-    ("a counter", COUNTER, "c", b"\n\n\n\n\n"),
-    ("the second of two", TWO, "d", b"\n\n\n"),
-    ("an echo", ECHO, "e", b"0:0 0\n1:7 0\n0:7 1\n0:0 0\n"),
+/// What it shows, the file, the process, the stimulus, with a mark for each line feed, and the status.
+const PAIRS: [(&str, &[u8], &str, &str, Status); 16] = [
+    ("a counter", COUNTER, "c", "↵↵↵↵↵", Status::Done),
+    ("the second of two", TWO, "d", "↵↵↵", Status::Done),
+    (
+        "an echo",
+        ECHO,
+        "e",
+        "0:0 0↵1:7 0↵0:7 1↵0:0 0↵",
+        Status::Done,
+    ),
     (
         "a promise that breaks",
         ECHO,
         "e",
-        b"0:0 0\n1:7 0\n0:9 1\n0:0 0\n",
+        "0:0 0↵1:7 0↵0:9 1↵0:0 0↵",
+        Status::Breach,
     ),
     (
         "a client of a memory",
         CLIENT,
         "client",
-        b"1 0:0 0 0:0\n0 1:5 1 0:0\n0 0:5 0 1:1\n0 0:0 0 0:0\n1 0:0 0 0:0\n",
+        "1 0:0 0 0:0↵0 1:5 1 0:0↵0 0:5 0 1:1↵0 0:0 0 0:0↵1 0:0 0 0:0↵",
+        Status::Done,
     ),
-    ("a set in each cycle", EACH_CYCLE, "c", b"\n\n\n"),
-    ("a set beside a wait", TOGETHER, "c", b"\n\n\n\n\n"),
+    ("a set in each cycle", EACH_CYCLE, "c", "↵↵↵", Status::Done),
+    ("a set beside a wait", TOGETHER, "c", "↵↵↵↵↵", Status::Done),
     (
         "62 parentheses",
         b"proc d() { reg a : logic[8];
@@ -169,27 +178,31 @@ const PAIRS: [(&str, &[u8], &str, &[u8]); 15] = [
 ((((((((((((((((((((((((((((((((((((((((((((((((((((((((((((((8'd1
 )))))))))))))))))))))))))))))))))))))))))))))))))))))))))))))) } }",
         "d",
-        b"\n\n\n",
+        "↵↵↵",
+        Status::Done,
     ),
     (
         "a life of three cycles",
         b"chan cm { right m : (logic[8]@#3) }
 proc s(p : left cm) { reg r : logic[8]; loop { set r := *r + 8'd1 >> send p.m(*r) >> cycle 3 } }",
         "s",
-        b"0\n0\n1\n0\n0\n0\n1\n1\n",
+        "0↵0↵1↵0↵0↵0↵1↵1↵",
+        Status::Done,
     ),
     (
         "a set after a recv",
         b"chan ch { left req : (logic[8]@res), right res : (logic[8]@#1) }
 proc f(p : left ch) { reg r : logic[8]; loop { send p.res(*r) >> let x = recv p.req >> set r := x } }",
         "f",
-        b"0:0 1\n1:3 0\n0:3 0\n0:3 1\n1:4 0\n0:4 0\n",
+        "0:0 1↵1:3 0↵0:3 0↵0:3 1↵1:4 0↵0:4 0↵",
+        Status::Done,
     ),
     (
         "a set on each side",
         b"proc t() { reg a : logic[8]; reg c : logic[1]; loop { if *c { set a := 8'd1 } else { set a := 8'd2 } } }",
         "t",
-        b"\n\n\n",
+        "↵↵↵",
+        Status::Done,
     ),
     (
         "a copy for another thread",
@@ -197,63 +210,59 @@ proc f(p : left ch) { reg r : logic[8]; loop { send p.res(*r) >> let x = recv p.
 proc w(p : left c1) { reg a : logic[8]; reg b : logic[8];
   loop { set b := *a >> send p.m(*b) >> cycle 1 } loop { set a := *a + 8'd1 } }",
         "w",
-        b"0\n1\n0\n0\n1\n",
+        "0↵1↵0↵0↵1↵",
+        Status::Done,
     ),
     (
         "two joins, the left partner first",
         JOIN,
         "j",
-        b"1:3 0 0:0 0\n0:3 0 1:4 0\n0:3 1 0:4 1\n0:0 0 0:0 0\n",
+        "1:3 0 0:0 0↵0:3 0 1:4 0↵0:3 1 0:4 1↵0:0 0 0:0 0↵",
+        Status::Done,
     ),
     (
         "two joins, the right partner first",
         JOIN,
         "j",
-        b"0:0 0 1:4 0\n1:3 0 0:4 0\n0:3 1 0:4 1\n0:0 0 0:0 0\n",
+        "0:0 0 1:4 0↵1:3 0 0:4 0↵0:3 1 0:4 1↵0:0 0 0:0 0↵",
+        Status::Done,
     ),
     (
         "the second of two, of one bit",
         b"proc c() { reg a : logic[8]; loop { set a := *a + 8'd1 } } proc d() { reg b : logic[1]; loop { set b := ~*b >> cycle 1 } }",
         "d",
-        b"\n\n\n\n",
+        "↵↵↵↵",
+        Status::Done,
+    ),
+    (
+        "a client whose partners do nothing for 200 cycles",
+        CLIENT,
+        "client",
+        "«200×0 0:0 0 0:0↵»",
+        Status::Done,
     ),
 ];
 
 // What is compiled runs as its source.
 #[test]
 fn what_is_compiled_has_the_log_of_its_source(rt: HostRuntime) -> Result<(), Fail> {
-    for (what, file, process, stimulus) in PAIRS {
+    for (what, file, process, rows, status) in PAIRS {
+        let stimulus = expanded(rt.alloc(), rows)?;
         let made = run(rt.alloc(), &["compile", "f"], file, NO_FAULTS)?;
         assert!(rt; made.status == Status::Done, "{what}");
         let words: [&str; 4] = ["run", "f", process, "s"];
-        let source = run_beside(rt.alloc(), &words, file, b"", stimulus, NO_FAULTS)?;
+        let source = run_beside(rt.alloc(), &words, file, b"", &stimulus, NO_FAULTS)?;
         let words: [&str; 5] = ["runsv", "f", "v", process, "s"];
         let text = made.out.bytes();
-        let module = run_beside(rt.alloc(), &words, file, text, stimulus, NO_FAULTS)?;
-        assert!(rt; module.status == source.status, "{what}");
+        let module = run_beside(rt.alloc(), &words, file, text, &stimulus, NO_FAULTS)?;
+        assert!(rt;
+            source.status == status && module.status == status,
+            "{what}"
+        );
         assert!(rt; source.out.bytes().len() > 0, "{what}");
         assert_eq!(rt; module.out.bytes(), source.out.bytes());
         assert_eq!(rt; module.err.bytes(), source.err.bytes());
     }
-    Ok(())
-}
-
-// A client whose partners do nothing for 200 cycles.
-#[test]
-fn a_client_that_waits(rt: HostRuntime) -> Result<(), Fail> {
-    let mut rows = Vec::new(rt.alloc());
-    for _ in 0..200 {
-        rows.extend_from_slice(b"0 0:0 0 0:0\n".as_slice())?;
-    }
-    let made = run(rt.alloc(), &["compile", "f"], CLIENT, NO_FAULTS)?;
-    let words: [&str; 4] = ["run", "f", "client", "s"];
-    let source = run_beside(rt.alloc(), &words, CLIENT, b"", &rows, NO_FAULTS)?;
-    let words: [&str; 5] = ["runsv", "f", "v", "client", "s"];
-    let text = made.out.bytes();
-    let module = run_beside(rt.alloc(), &words, CLIENT, text, &rows, NO_FAULTS)?;
-    assert!(rt; source.status == Status::Done && module.status == Status::Done);
-    assert!(rt; source.out.bytes().len() > 200 * 40);
-    assert_eq!(rt; module.out.bytes(), source.out.bytes());
     Ok(())
 }
 
