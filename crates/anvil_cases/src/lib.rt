@@ -8,14 +8,18 @@ mod check;
 #[cfg(test)]
 mod compile;
 #[cfg(test)]
-mod modules;
+mod edges;
+#[cfg(test)]
+mod faults;
+#[cfg(test)]
+mod limits;
 #[cfg(test)]
 mod names;
 #[cfg(test)]
 mod programs;
 #[cfg(test)]
-mod refused;
-#[cfg(test)]
 mod run;
 #[cfg(test)]
 mod run_module;
+#[cfg(test)]
+mod tables;
