@@ -60,6 +60,7 @@ pub fn read_set(
             if width == found.width {
                 Ok((found.number, value))
             } else {
+                drop(value);
                 Err(differ(at, found.width, width))
             }
         }
@@ -135,6 +136,7 @@ pub fn read_send(
             if width == port.width {
                 Ok((port.number, value))
             } else {
+                drop(value);
                 Err(differ(at, port.width, width))
             }
         }

@@ -129,9 +129,15 @@ pub fn read_endpoints(
         match read_endpoint(endpoint, classes, &names, &mut table) {
             Ok(()) => match names.insert(endpoint.name.copy()) {
                 Ok(_) => {}
-                Err(_) => return Err(NameErr::NoMemory),
+                Err(_) => {
+                    drop((names, table));
+                    return Err(NameErr::NoMemory);
+                }
             },
-            Err(fault) => return Err(fault),
+            Err(fault) => {
+                drop((names, table));
+                return Err(fault);
+            }
         }
     }
     Ok((names, table))

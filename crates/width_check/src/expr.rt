@@ -10,21 +10,13 @@ ghost use Rattle.core_file.specs.declared.error.NameErr.TheVariants.{NoMemory};
 ghost use Rattle.width_check.specs.Known.{scope_of};
 
 use crate::nodes::{choice_width, core_operator, operator_width, read_literal};
+use crate::room::boxed;
 use crate::scope::Scope;
 use anvil_lexer::Name;
 use anvil_tree::{Expr, ExprKind};
 use core_file::NameErr;
 use core_term::CoreExpr;
 use std::alloc::Global;
-
-fn boxed(alloc: Global, expr: CoreExpr) -> Result<Box<CoreExpr>, NameErr>
-    ensures { MatchResult result (λ held. held.value ≡ expr) (λ fault. fault ≡ NoMemory) }
-{
-    match Box::new(alloc, expr) {
-        Ok(held) => Ok(held),
-        Err(_) => Err(NameErr::NoMemory),
-    }
-}
 
 // The act that a word stands for, with the width of its value, or the first check of the word that fails.
 fn read_word(at: u32, name: &Name, scope: &Scope<'_>) -> Result<(u32, u8), NameErr>
@@ -47,7 +39,25 @@ fn read_word(at: u32, name: &Name, scope: &Scope<'_>) -> Result<(u32, u8), NameE
     }
 }
 
+// The core expression of an operand, in a box of its own, and its width in bits.
+#[cycle(expr)]
+fn read_operand(
+    alloc: Global,
+    expr: &Expr,
+    scope: &Scope<'_>,
+) -> Result<(Box<CoreExpr>, u8), NameErr>
+    ensures { MatchResult result
+        (λ read. (first_refusal (expr_checks (scope_of scope.now) (tree_of expr.now)) ≡ None)
+        × (expr_of (scope_of scope.now).widths read.0.value ≡ core_expr (scope_of scope.now) (tree_of expr.now))
+        × (read.1 ≡ width_of (scope_of scope.now) (tree_of expr.now)))
+        (λ fault. (fault ≡ NoMemory) ⊎ (first_refusal (expr_checks (scope_of scope.now) (tree_of expr.now)) ≡ Some fault)) }
+{
+    let (read, width) = read_expr(alloc, expr, scope)?;
+    Ok((boxed(alloc, read)?, width))
+}
+
 /// The core expression, and its width in bits.
+#[cycle(expr)]
 #[tactic(auto, using(first_check::proofs::Walks::passes, first_check::proofs::Walks::stops))]
 pub fn read_expr(alloc: Global, expr: &Expr, scope: &Scope<'_>) -> Result<(CoreExpr, u8), NameErr>
     ensures { MatchResult result
@@ -70,20 +80,28 @@ pub fn read_expr(alloc: Global, expr: &Expr, scope: &Scope<'_>) -> Result<(CoreE
             Some(found) => Ok((CoreExpr::Reg(found.number), found.width)),
             None => Err(NameErr::Unknown { at }),
         },
-        ExprKind::Not(operand) => {
-            let (operand, width) = read_expr(alloc, operand, scope)?;
-            Ok((CoreExpr::Not(boxed(alloc, operand)?), width))
-        }
+        ExprKind::Not(operand) => match read_operand(alloc, operand, scope) {
+            Ok((operand, width)) => Ok((CoreExpr::Not(operand), width)),
+            Err(fault) => Err(fault),
+        },
         ExprKind::Bin(operator, first, second) => {
-            let (first, left) = read_expr(alloc, first, scope)?;
-            let (second, right) = read_expr(alloc, second, scope)?;
-            let width = operator_width(at, *operator, left, right)?;
-            let first = boxed(alloc, first)?;
-            let second = boxed(alloc, second)?;
-            Ok((
-                CoreExpr::Bin(core_operator(*operator), first, second),
-                width,
-            ))
+            let (first, left) = read_operand(alloc, first, scope)?;
+            match read_operand(alloc, second, scope) {
+                Ok((second, right)) => match operator_width(at, *operator, left, right) {
+                    Ok(width) => Ok((
+                        CoreExpr::Bin(core_operator(*operator), first, second),
+                        width,
+                    )),
+                    Err(fault) => {
+                        drop((first, second));
+                        Err(fault)
+                    }
+                },
+                Err(fault) => {
+                    drop(first);
+                    Err(fault)
+                }
+            }
         }
         ExprKind::Slice { name, high, low } => match read_word(at, name, scope) {
             Ok((var, width)) => {
@@ -103,14 +121,26 @@ pub fn read_expr(alloc: Global, expr: &Expr, scope: &Scope<'_>) -> Result<(CoreE
             Err(fault) => Err(fault),
         },
         ExprKind::Choose(condition, first, second) => {
-            let (condition, one) = read_expr(alloc, condition, scope)?;
-            let (first, left) = read_expr(alloc, first, scope)?;
-            let (second, right) = read_expr(alloc, second, scope)?;
-            let width = choice_width(at, one, left, right)?;
-            let condition = boxed(alloc, condition)?;
-            let first = boxed(alloc, first)?;
-            let second = boxed(alloc, second)?;
-            Ok((CoreExpr::Choose(condition, first, second), width))
+            let (condition, one) = read_operand(alloc, condition, scope)?;
+            match read_operand(alloc, first, scope) {
+                Ok((first, left)) => match read_operand(alloc, second, scope) {
+                    Ok((second, right)) => match choice_width(at, one, left, right) {
+                        Ok(width) => Ok((CoreExpr::Choose(condition, first, second), width)),
+                        Err(fault) => {
+                            drop((condition, first, second));
+                            Err(fault)
+                        }
+                    },
+                    Err(fault) => {
+                        drop((condition, first));
+                        Err(fault)
+                    }
+                },
+                Err(fault) => {
+                    drop(condition);
+                    Err(fault)
+                }
+            }
         }
         ExprKind::Unit => Err(NameErr::UnitUsed { at }),
     }

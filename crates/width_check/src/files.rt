@@ -14,6 +14,7 @@ ghost use Rattle.core_file.specs.ProcessChecks.{checks_of_processes};
 ghost use Rattle.core_file.specs.declared.error.NameErr.TheVariants.{NoMemory};
 
 use crate::process::read_process;
+use crate::room::push;
 use anvil_tree::{File, Item};
 use channel_classes::Classes;
 use core_file::NameErr;
@@ -45,15 +46,25 @@ pub fn resolve(alloc: Global, file: &File, classes: &Classes) -> Result<CoreFile
             Item::Chan(_) => {}
             Item::Proc(process) => match read_process(alloc, process, classes, &names) {
                 Ok(read) => match names.insert(process.name.copy()) {
-                    Ok(_) => match procs.push(read) {
+                    Ok(_) => match push(&mut procs, read) {
                         Ok(()) => {}
-                        Err(_) => return Err(NameErr::NoMemory),
+                        Err(_) => {
+                            drop((names, procs));
+                            return Err(NameErr::NoMemory);
+                        }
                     },
-                    Err(_) => return Err(NameErr::NoMemory),
+                    Err(_) => {
+                        drop((names, procs, read));
+                        return Err(NameErr::NoMemory);
+                    }
                 },
-                Err(fault) => return Err(fault),
+                Err(fault) => {
+                    drop((names, procs));
+                    return Err(fault);
+                }
             },
         }
     }
+    drop(names);
     Ok(CoreFile { procs })
 }

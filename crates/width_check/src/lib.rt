@@ -10,6 +10,7 @@ mod nodes;
 mod process;
 mod pure;
 mod registers;
+mod room;
 mod scope;
 mod tables;
 mod tail;

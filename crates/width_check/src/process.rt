@@ -41,7 +41,10 @@ pub fn read_process(
     match read_endpoints(alloc, &process.endpoints, classes) {
         Err(fault) => Err(fault),
         Ok((endpoints, ports)) => match read_registers(alloc, &process.registers) {
-            Err(fault) => Err(fault),
+            Err(fault) => {
+                drop((endpoints, ports));
+                Err(fault)
+            }
             Ok(registers) => {
                 let known = Known {
                     endpoints,
@@ -49,13 +52,19 @@ pub fn read_process(
                     registers,
                 };
                 match read_threads(alloc, &known, &process.threads) {
-                    Err(fault) => Err(fault),
-                    Ok(threads) => Ok(CoreProc {
-                        name: process.name.copy(),
-                        ports: known.ports.into_ports(),
-                        regs: known.registers.into_registers(),
-                        threads,
-                    }),
+                    Err(fault) => {
+                        drop(known);
+                        Err(fault)
+                    }
+                    Ok(threads) => {
+                        drop(known.endpoints);
+                        Ok(CoreProc {
+                            name: process.name.copy(),
+                            ports: known.ports.into_ports(),
+                            regs: known.registers.into_registers(),
+                            threads,
+                        })
+                    }
                 }
             }
         },

@@ -91,7 +91,10 @@ pub fn read_registers(alloc: Global, registers: &[Register]) -> Result<RegisterT
                 Ok(more) => table = more,
                 Err(_) => return Err(NameErr::NoMemory),
             },
-            Err(fault) => return Err(fault),
+            Err(fault) => {
+                drop(table);
+                return Err(fault);
+            }
         }
     }
     Ok(table)

@@ -5,6 +5,7 @@ ghost use Rattle.core_term.specs.Limits.{most_ports, most_registers};
 ghost use Rattle.core_file.specs.Scope.{is_among};
 ghost use Rattle.width_check.specs.Tables.{is_port_named, is_register_named, names_of};
 
+use crate::room::push;
 use anvil_lexer::Name;
 use core_term::{CorePort, CoreReg};
 use indexmap::IndexSet;
@@ -130,7 +131,9 @@ impl RegisterTable {
         ensures registers { result.items ≡ self }
         ensures few { length self ≤ most_registers }
     {
-        self.registers
+        let RegisterTable { registers, names } = self;
+        drop(names);
+        registers
     }
 
     /// Whether a register has the name.
@@ -158,8 +161,18 @@ impl RegisterTable {
             mut registers,
             mut names,
         } = self;
-        names.insert(register.name.copy())?;
-        registers.push(register)?;
-        Ok(RegisterTable { registers, names })
+        match names.insert(register.name.copy()) {
+            Ok(_) => match push(&mut registers, register) {
+                Ok(()) => Ok(RegisterTable { registers, names }),
+                Err(refusal) => {
+                    drop((registers, names));
+                    Err(refusal)
+                }
+            },
+            Err(refusal) => {
+                drop((registers, names, register));
+                Err(refusal.into())
+            }
+        }
     }
 }

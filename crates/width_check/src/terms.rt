@@ -15,6 +15,7 @@ use crate::expr::read_expr;
 use crate::made::Made;
 use crate::nodes::differ;
 use crate::pure::read_pure;
+use crate::room::boxed;
 use crate::scope::Scope;
 use crate::taken::Taken;
 use anvil_tree::{Act, ActKind, Term};
@@ -30,21 +31,20 @@ pub struct ReadTerm {
     pub next: u32,
 }
 
+// The same of a part of a term, in a box of its own.
+#[derive(Drop)]
+struct ReadPart {
+    term: Box<CoreTerm>,
+    width: u8,
+    next: u32,
+}
+
 /// What an act does that was read, the width of its value, and the first site behind it.
 #[derive(Drop)]
 pub struct ReadKind {
     pub kind: CoreKind,
     pub width: u8,
     pub next: u32,
-}
-
-fn boxed(alloc: Global, term: CoreTerm) -> Result<Box<CoreTerm>, NameErr>
-    ensures { MatchResult result (λ held. held.value ≡ term) (λ fault. fault ≡ NoMemory) }
-{
-    match Box::new(alloc, term) {
-        Ok(held) => Ok(held),
-        Err(_) => Err(NameErr::NoMemory),
-    }
 }
 
 // The width of the value of an `if` whose sides have values of these widths. It has none where a side has none.
@@ -101,20 +101,24 @@ pub fn read_term(
                 known: scope.known,
                 made: &made,
             };
-            let behind = read_term(alloc, rest, &inner, taken, read.next)?;
-            let rest = boxed(alloc, behind.term)?;
-            Ok(ReadTerm {
-                term: CoreTerm::Then(
-                    CoreAct {
-                        site: low,
-                        at: act.at,
-                        kind: read.kind,
-                    },
-                    rest,
-                ),
-                width: behind.width,
-                next: behind.next,
-            })
+            match read_part(alloc, rest, &inner, taken, read.next) {
+                Ok(behind) => Ok(ReadTerm {
+                    term: CoreTerm::Then(
+                        CoreAct {
+                            site: low,
+                            at: act.at,
+                            kind: read.kind,
+                        },
+                        behind.term,
+                    ),
+                    width: behind.width,
+                    next: behind.next,
+                }),
+                Err(fault) => {
+                    drop(read);
+                    Err(fault)
+                }
+            }
         }
         Term::Both(name, act, rest) => {
             let read = read_kind(alloc, act, scope, taken, low)?;
@@ -128,22 +132,49 @@ pub fn read_term(
                 known: scope.known,
                 made: &made,
             };
-            let behind = read_term(alloc, rest, &inner, taken, read.next)?;
-            let rest = boxed(alloc, behind.term)?;
-            Ok(ReadTerm {
-                term: CoreTerm::Both(
-                    CoreAct {
-                        site: low,
-                        at: act.at,
-                        kind: read.kind,
-                    },
-                    rest,
-                ),
-                width: behind.width,
-                next: behind.next,
-            })
+            match read_part(alloc, rest, &inner, taken, read.next) {
+                Ok(behind) => Ok(ReadTerm {
+                    term: CoreTerm::Both(
+                        CoreAct {
+                            site: low,
+                            at: act.at,
+                            kind: read.kind,
+                        },
+                        behind.term,
+                    ),
+                    width: behind.width,
+                    next: behind.next,
+                }),
+                Err(fault) => {
+                    drop(read);
+                    Err(fault)
+                }
+            }
         }
     }
+}
+
+// The core term of a part, which stands in a box of its own.
+#[cycle(read)]
+fn read_part(
+    alloc: Global,
+    term: &Term,
+    scope: &Scope<'_>,
+    taken: &Taken,
+    low: u32,
+) -> Result<ReadPart, NameErr>
+    requires { low + act_count (tree.term_of term.now) ≤ most_acts }
+    ensures { MatchResult result
+        (λ read. TermRead (scope_of scope.now) (taken_of taken.now) low (tree.term_of term.now) read.term.value read.width read.next)
+        (λ fault. TermFails (scope_of scope.now) (taken_of taken.now) low (tree.term_of term.now) fault) }
+{
+    let read = read_term(alloc, term, scope, taken, low)?;
+    let term = boxed(alloc, read.term)?;
+    Ok(ReadPart {
+        term,
+        width: read.width,
+        next: read.next,
+    })
 }
 
 /// What an act of the site `low` does.
@@ -236,50 +267,58 @@ fn read_kind(
         ActKind::If { cond, yes, no } => {
             let (cond, width) = read_expr(alloc, cond, scope)?;
             if width != 1 {
+                drop(cond);
                 return Err(differ(at, 1, width));
             }
-            let first = read_term(alloc, yes, scope, taken, low + 1)?;
-            match no {
-                None => {
-                    let yes = boxed(alloc, first.term)?;
-                    Ok(ReadKind {
+            match read_part(alloc, yes, scope, taken, low + 1) {
+                Ok(first) => match no {
+                    None => Ok(ReadKind {
                         kind: CoreKind::If {
                             cond,
-                            yes,
+                            yes: first.term,
                             no: None,
                             word: None,
                         },
                         width: 0,
                         next: first.next,
-                    })
-                }
-                Some(no) => {
-                    let second = read_term(alloc, no, scope, taken, first.next)?;
-                    let word = word_of(at, first.width, second.width)?;
-                    let yes = boxed(alloc, first.term)?;
-                    let no = boxed(alloc, second.term)?;
-                    Ok(ReadKind {
-                        kind: CoreKind::If {
-                            cond,
-                            yes,
-                            no: Some(no),
-                            word,
+                    }),
+                    Some(no) => match read_part(alloc, no, scope, taken, first.next) {
+                        Ok(second) => match word_of(at, first.width, second.width) {
+                            Ok(word) => Ok(ReadKind {
+                                kind: CoreKind::If {
+                                    cond,
+                                    yes: first.term,
+                                    no: Some(second.term),
+                                    word,
+                                },
+                                width: word.unwrap_or(0),
+                                next: second.next,
+                            }),
+                            Err(fault) => {
+                                drop((cond, first, second));
+                                Err(fault)
+                            }
                         },
-                        width: word.unwrap_or(0),
-                        next: second.next,
-                    })
+                        Err(fault) => {
+                            drop((cond, first));
+                            Err(fault)
+                        }
+                    },
+                },
+                Err(fault) => {
+                    drop(cond);
+                    Err(fault)
                 }
             }
         }
-        ActKind::Block(body) => {
-            let read = read_term(alloc, body, scope, taken, low + 1)?;
-            let body = boxed(alloc, read.term)?;
-            Ok(ReadKind {
-                kind: CoreKind::Block(body),
+        ActKind::Block(body) => match read_part(alloc, body, scope, taken, low + 1) {
+            Ok(read) => Ok(ReadKind {
+                kind: CoreKind::Block(read.term),
                 width: read.width,
                 next: read.next,
-            })
-        }
+            }),
+            Err(fault) => Err(fault),
+        },
         ActKind::Pure(expr) => match read_pure(alloc, expr, scope, low) {
             Ok((kind, width)) => Ok(ReadKind {
                 kind,

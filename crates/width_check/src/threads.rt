@@ -10,6 +10,7 @@ ghost use Rattle.width_check.specs.Taken.{taken_of};
 ghost use Rattle.width_check.specs.ReadThreads.{ThreadRead, ThreadFails, ThreadsRead, ThreadsFail};
 
 use crate::made::Made;
+use crate::room::push;
 use crate::scope::{Known, Scope};
 use crate::tail::check_tail;
 use crate::taken::{Taken, take_term};
@@ -38,11 +39,17 @@ fn read_thread(
     match read_term(alloc, thread, &scope, taken, 0) {
         Err(fault) => Err(fault),
         Ok(read) => match check_tail(thread) {
-            Err(fault) => Err(fault),
+            Err(fault) => {
+                drop(read);
+                Err(fault)
+            }
             Ok(()) => match CoreThread::new(alloc, read.term) {
                 Err(_) => Err(NameErr::NoMemory),
                 Ok(body) => match take_term(thread, taken) {
-                    Err(_) => Err(NameErr::NoMemory),
+                    Err(_) => {
+                        drop(body);
+                        Err(NameErr::NoMemory)
+                    }
                     Ok(()) => Ok(body),
                 },
             },
@@ -69,12 +76,19 @@ pub fn read_threads(
     let mut read = Vec::new(alloc);
     for thread in threads {
         match read_thread(alloc, known, thread, &mut taken) {
-            Ok(body) => match read.push(body) {
+            Ok(body) => match push(&mut read, body) {
                 Ok(()) => {}
-                Err(_) => return Err(NameErr::NoMemory),
+                Err(_) => {
+                    drop((taken, read));
+                    return Err(NameErr::NoMemory);
+                }
             },
-            Err(fault) => return Err(fault),
+            Err(fault) => {
+                drop((taken, read));
+                return Err(fault);
+            }
         }
     }
+    drop(taken);
     Ok(read)
 }

@@ -42,8 +42,8 @@ loop-item-preserved c =
     elim c.match-item.branch [
       | in-Chan w ↦ rw (w.names-is, w.procs-is) (past_class c.args.classes.now (file_of c.args.file.now) c.loop-item.names.keys c.loop-item.procs.items (class_of w.in-Chan.field-0) rest (rw w.in-Chan.is at at))
       | in-Proc+in-Ok+in-Ok-insert+in-Ok-push w ↦ rw (w.names-is, w.procs-is)
-          (past_process c.args.classes.now (file_of c.args.file.now) c.loop-item.names.keys w.insert.new.self.keys c.loop-item.procs.items w.push.new.self.items (process_of w.in-Proc.process) w.in-Ok.read rest (rw w.in-Proc.is at at)
-          w.in-Ok.ensures (rw w.copy.ensures at w.in-Ok-insert.ensures.keys) w.in-Ok-push.ensures.items)
+          (past_process c.args.classes.now (file_of c.args.file.now) c.loop-item.names.keys w.insert.new.self.keys c.loop-item.procs.items w.push.new.items.items (process_of w.in-Proc.process) w.in-Ok.read rest (rw w.in-Proc.is at at)
+          w.in-Ok.ensures (rw w.copy.ensures at w.in-Ok-insert.ensures.keys) w.in-Ok-push.ensures)
     ]
 
 pub returns : goal.returns

@@ -31,7 +31,7 @@ returns-in-Err c =
 
 pub loop-thread-preserved : goal.loop-thread-preserved
 loop-thread-preserved c =
-    rw c.in-Ok-push.ensures.items
+    rw c.in-Ok-push.ensures
     (past (scope_with c.args.known.now Nothing) (map term_of c.args.threads.now) (taken_of c.loop-thread.taken) (taken_of c.read_thread.new.taken) c.loop-thread.read.items
     (term_of c.thread-item.result) c.in-Ok.body (drop (c.loop-thread.thread-index + 1) (map term_of c.args.threads.now))
     (next (scope_with c.args.known.now Nothing) (taken_of c.loop-thread.taken) c.loop-thread.read.items c.args.threads.now c.loop-thread.thread-index c.thread-item.result
