@@ -1,12 +1,9 @@
 //! The command `compile`.
 use crate::bench::{NO_FAULTS, run};
-use crate::programs::COUNTER;
+use crate::programs::{COUNTER, USAGE};
 use anvil_tool::Status;
 use std::alloc::{AllocError, Global};
 use std::test::Fail;
-
-const USAGE: &[u8] =
-    b"usage: anvil check FILE | compile FILE | run FILE PROC STIM | runsv FILE SV PROC STIM\n";
 
 /// What the module of a process of the name `c` without ports begins with.
 const HEADER: &[u8] = b"module anvil__c (\n  input logic clk_i,\n  input logic rst_ni\n);\n";

@@ -1,6 +1,6 @@
 //! Loads and puts that fail, one after the other, for every command. A command with a new form gets rows in `CALLS`.
 use crate::bench::{Ended, Faults, NO_FAULTS, run, run_beside, run_over, shelf_of};
-use crate::programs::{COUNTER, ECHO, MODULE};
+use crate::programs::{COUNTER, ECHO, MODULE, USAGE};
 use anvil_tool::Status;
 use std::alloc::{AllocError, Global};
 use std::test::Fail;
@@ -24,7 +24,7 @@ struct Call<'a> {
 
 const TWO_SETS: &[u8] = b"proc t() { reg a : logic[8]; loop { set a := 8'd1 ; set a := 8'd2 } }";
 
-const CALLS: [Call<'static>; 18] = [
+const CALLS: [Call<'static>; 19] = [
     Call {
         what: "check of an echo",
         words: &["check", "f"],
@@ -213,6 +213,17 @@ const CALLS: [Call<'static>; 18] = [
         err: b"read fault: none\n",
     },
     Call {
+        what: "gen of two processes",
+        words: &["gen", "2"],
+        file: b"",
+        text: Some(b""),
+        stimulus: b"",
+        loads: &[],
+        status: Status::Done,
+        shows: true,
+        err: b"",
+    },
+    Call {
         what: "a word too many",
         words: &["check", "x", "y"],
         file: b"",
@@ -221,7 +232,7 @@ const CALLS: [Call<'static>; 18] = [
         loads: &[],
         status: Status::Usage,
         shows: false,
-        err: b"usage: anvil check FILE | compile FILE | run FILE PROC STIM | runsv FILE SV PROC STIM\n",
+        err: USAGE,
     },
 ];
 

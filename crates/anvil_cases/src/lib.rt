@@ -12,6 +12,8 @@ mod edges;
 #[cfg(test)]
 mod faults;
 #[cfg(test)]
+mod generate;
+#[cfg(test)]
 mod limits;
 #[cfg(test)]
 mod names;

@@ -24,3 +24,7 @@ pub const JOIN: &[u8] =
 /// A module of the counter, written by hand.
 pub const MODULE: &[u8] =
     b"module anvil__c (\n  input logic clk_i,\n  input logic rst_ni\n);\n  logic [7:0] a__q;\n  logic [0:0] s__0;\n  logic [0:0] s__1;\n  logic [1:0] s__2;\n  logic [0:0] n__0;\n  assign n__0 = s__2 == 2'd1;\n  logic [0:0] n__1;\n  assign n__1 = ~s__0;\n  logic [0:0] n__2;\n  assign n__2 = n__0 | n__1;\n  logic [7:0] n__3;\n  assign n__3 = a__q + 8'd1;\n  logic [7:0] n__4;\n  assign n__4 = n__2 ? n__3 : a__q;\n  logic [0:0] n__5;\n  assign n__5 = s__2 != 2'd0;\n  logic [1:0] n__6;\n  assign n__6 = s__2 - 2'd1;\n  logic [1:0] n__7;\n  assign n__7 = n__5 ? n__6 : 2'd0;\n  logic [1:0] n__8;\n  assign n__8 = s__1 ? 2'd2 : n__7;\n  always_ff @(posedge clk_i) begin\n    if (!rst_ni) begin\n      a__q <= 8'd0;\n      s__0 <= 1'd0;\n      s__1 <= 1'd0;\n      s__2 <= 2'd0;\n    end else begin\n      a__q <= n__4;\n      s__0 <= 1'd1;\n      s__1 <= n__2;\n      s__2 <= n__8;\n    end\n  end\nendmodule\n";
+
+/// The line of words that have no form.
+pub const USAGE: &[u8] =
+    b"usage: anvil check FILE | compile FILE | run FILE PROC STIM | runsv FILE SV PROC STIM | gen NUMBER\n";

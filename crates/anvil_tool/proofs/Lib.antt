@@ -11,3 +11,6 @@ pub mod ModuleRuns
 pub mod Exact
 -- That a text that was compiled has the logs of its file.
 pub mod SameLog
+pub mod AsRun
+-- That the line of a summary is what is written.
+pub mod Summarised

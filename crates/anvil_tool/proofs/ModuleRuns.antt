@@ -96,7 +96,7 @@ module _ (bytes text name : List ℕ) where
       let same = same_process bytes name second.process first.process second.of_file first.of_file in
       module_refused_once first.process name text one other first.refused (subst (λ p. IsModuleRefused p name text other) same second.refused)
 
-  sv_or_refused : (refusal : Refusal) → IsSvRefused bytes text name refusal → HasModule bytes text name → ⊥
+  pub sv_or_refused : (refusal : Refusal) → IsSvRefused bytes text name refusal → HasModule bytes text name → ⊥
   sv_or_refused refusal refused has =
       let same = same_process bytes name has.process refused.process has.pair.of_file refused.of_file in
       module_or_refused refused.process name text refusal has.tree refused.refused (subst (λ p. IsModuleIn p name text has.tree) same has.pair.of_text)

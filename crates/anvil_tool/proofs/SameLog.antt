@@ -19,11 +19,10 @@ use Rattle.core_term.proofs.code_tables.FittingRows.{inputs_fit}
 use Rattle.core_term.proofs.source_runs.Exists.{is_history}
 use Rattle.stim_text.specs.Answers.{AreRowsOf}
 use Rattle.sv_tree.specs.Module.{Module}
-use Rattle.fsm_builder.specs.ModuleOf.{IsModuleOf, source_register}
 use Rattle.machine_meaning.specs.Meaning.{HasSameLog, LogsAlike}
 use Rattle.source_log.specs.Log.{shown_on}
 use Rattle.module_log.specs.Log.{module_shown}
-use Rattle.module_log.specs.SamePorts.{HasPortsOf, of_module, of_process}
+use Rattle.generated_runs.proofs.BuiltPorts.{has_ports}
 use Rattle.checked_files.specs.Named.{IsProcessOf, process_named}
 use Rattle.checked_files.proofs.OneRefusal.{one_file}
 use Rattle.anvil_tool.specs.Logs.{IsBrokenLog, IsLog}
@@ -34,13 +33,6 @@ use Rattle.anvil_tool.proofs.ModuleRuns.{of_pair}
 use Rattle.anvil_tool.proofs.Stimuli.{rows_fit}
 
 -- The module of a process.
-
-same_registers : (registers : List Register) → map of_module (map source_register registers) ≡ map of_process registers
-same_registers [] = refl
-same_registers (register ∷ registers) = ap (λ rest. of_process register ∷ rest) (same_registers registers)
-
-has_ports : (p : Process) (tree : Module) → IsModuleOf p tree → HasPortsOf p tree
-has_ports p tree is = record { ports = is.ports; registers = ap (map of_module) is.registers ∙ same_registers p.registers }
 
 pub record Made (name : List ℕ) (modules : List Module) (p : Process) : Type 0 where
   pub tree : Module

@@ -1,12 +1,14 @@
 -- The stages of each command: what they say of the bytes that they have.
 use Rattle.std.specs.Prelude.{◌≡◌, ◌⊎◌, ℕ, List, [], ◌∷◌, codes, Option, Some, None}
-use Rattle.command_words.specs.Form.{Command, check, compile, run, runsv, Form, loads_of, usage_line}
+use Rattle.command_words.specs.Form.{Command, check, compile, run, runsv, gen, Form, loads_of, number_of, usage_line}
 use Rattle.tool_answers.specs.declared.refusal.Refusal.{Refusal}
 use Rattle.tool_answers.specs.Stages.{Stage, Stages}
 use Rattle.tool_answers.specs.Lines.{no_memory_line}
 use Rattle.tool_answers.specs.Answer.{IsLine}
 use Rattle.checked_files.specs.Check.{IsAcceptedText, IsCheckRefused}
 use Rattle.checked_files.specs.Named.{HasProcess, IsProcessRefused}
+use Rattle.generated_file.specs.Generated.{generated}
+use Rattle.generated_runs.specs.Summary.{IsSummary}
 use Rattle.anvil_tool.specs.Output.{IsOutput}
 use Rattle.anvil_tool.specs.Run.{HasRun, IsBrokenRun, IsRunFront, IsRunLog, IsTextRefused}
 use Rattle.anvil_tool.specs.RunModule.{
@@ -113,6 +115,29 @@ module_stages name = record {
       module_texts (λ file text stimulus. IsBrokenModule file text name stimulus log line) loaded;
 }
 
+-- `gen`: no file is loaded, and the generated file of the number keeps the timing rules, or is refused.
+
+abbrev pub gen_refuses : ℕ → List (List ℕ) → Refusal → Type 0
+gen_refuses count [] refusal = IsCheckRefused (generated count) refusal
+gen_refuses count (file ∷ more) refusal = ⊥
+
+abbrev pub gen_goes_on : ℕ → List (List ℕ) → Type 0
+gen_goes_on count [] = IsAcceptedText (generated count)
+gen_goes_on count (file ∷ more) = ⊥
+
+abbrev pub gen_writes : ℕ → List (List ℕ) → List ℕ → Type 0
+gen_writes count [] text = IsSummary count text
+gen_writes count (file ∷ more) text = ⊥
+
+abbrev pub gen_stages : ℕ → Stages
+gen_stages count = record {
+  refuses = gen_refuses count;
+  goes_on = gen_goes_on count;
+  writes = gen_writes count;
+  begins = gen_writes count;
+  breaks = λ loaded text line. ⊥;
+}
+
 -- The stages of each command, which may ask for the words of the form too.
 
 -- the word of the number, from 0
@@ -125,11 +150,21 @@ abbrev pub third_of : List (List ℕ) → List ℕ
 third_of [] = []
 third_of (first ∷ more) = second_of more
 
+abbrev pub number_or_none : Option ℕ → ℕ
+number_or_none None = 0
+number_or_none (Some number) = number
+
+-- the number that the first word is
+abbrev pub count_of : List (List ℕ) → ℕ
+count_of [] = 0
+count_of (first ∷ more) = number_or_none (number_of first)
+
 abbrev pub stages_by : Command → List (List ℕ) → Stages
 stages_by check operands = file_stages IsAcceptedLine
 stages_by compile operands = file_stages IsOutput
 stages_by run operands = run_stages (second_of operands)
 stages_by runsv operands = module_stages (third_of operands)
+stages_by gen operands = gen_stages (count_of operands)
 
 -- where a form begins: nothing is loaded yet
 abbrev pub start_of : Form → Stage

@@ -6,6 +6,7 @@
 
 mod check;
 mod compile;
+mod generate;
 mod laws;
 mod limits;
 mod logs;

@@ -3,15 +3,17 @@ ghost use Rattle.std.specs.Prelude.{◌≡◌, ◌≢◌, ◌⊎◌, ◌<◌, Li
 ghost use Rattle.std.specs.Io.KnownBytes.{Appends};
 ghost use Rattle.anvil_io.specs.Causes.{Rose};
 ghost use Rattle.command_words.specs.Form.{Form, MayLoad, form_of, usage_line, words_of};
-ghost use Rattle.command_words.specs.Seen.{form_seen};
+ghost use Rattle.command_words.specs.Seen.{HasNumber, form_seen};
 ghost use Rattle.tool_answers.specs.declared.refusal.Refusal.{Refusal};
 ghost use Rattle.tool_answers.specs.Answer.{Breaks, BreachFailed, Ends, HasNoFault, IsBreach, IsFirstRefusal, IsReadFault, IsRefusedBy, IsTooLong, IsUntouched, IsWritten, LineFailed, OutFailed, Overflows, Tells};
 ghost use Rattle.tool_answers.specs.Answered.{Answered, shelf_seen, sink_seen};
 ghost use Rattle.tool_answers.specs.Lines.{IsLineOf, no_memory_line, refusal_line};
+ghost use Rattle.anvil_tool.specs.SameLog.{AnswersAsRun, HasWritten};
 ghost use Rattle.anvil_tool.specs.Stages.{IsLineFor, start_of};
 
 use crate::check::check_file;
 use crate::compile::compile_file;
+use crate::generate::summarise;
 use crate::run::run_file;
 use crate::run_module::{ModuleRun, run_module_file};
 use anvil_io::{Shelf, Sink};
@@ -20,8 +22,8 @@ use std::alloc::Global;
 use tool_answers::{Status, complain_memory, complain_usage};
 
 /// Does what the words say: `check FILE` puts a line to `out` where a file keeps the timing rules, `compile FILE` then puts the modules
-/// of its processes, in the order of the file, `run FILE PROC STIM` the log of a process on the rows of a stimulus, and
-/// `runsv FILE SV PROC STIM` that of its module in a text of modules.
+/// of its processes, in the order of the file, `run FILE PROC STIM` the log of a process on the rows of a stimulus,
+/// `runsv FILE SV PROC STIM` that of its module in a text of modules, and `gen NUMBER` the summary of the generated file of a number.
 ///
 /// `words` leaves out the program's own name. The shelf is asked for the files of the form alone, so each has to be one that
 /// may be asked for. On every status but `Done`, `Breach` and `WriteFault` nothing is put to `out`, and on every one but `Done`
@@ -117,6 +119,11 @@ pub fn run_tool<S: Shelf, O: Sink, E: Sink>(
         → HasNoFault (O.faults out.old) (O.faults out.new)
         → HasNoFault (E.faults err.old) (E.faults err.new)
         → (result ≡ Status.Done) ⊎ (result ≡ Status.NoMemory)) }
+
+    // `runsv` of what `compile` wrote for FILE answers as `run` does.
+    ensures same_log { IfSome (form_of (words_of words.now)) (λ form. (bytes name stimulus : List ℕ)
+        → HasWritten (S.told shelf.old) form bytes name stimulus
+        → AnswersAsRun bytes name stimulus result (O.held out.old) (O.held out.new) (E.held err.old) (E.held err.new)) }
 {
     match form_of(alloc, words) {
         Ok(Some(command)) => obey(alloc, command, shelf, out, err),
@@ -133,7 +140,8 @@ fn obey<S: Shelf, O: Sink, E: Sink>(
     out: &mut O,
     err: &mut E,
 ) -> Status
-    requires { MayLoad (S.may_ask shelf.old) (form_seen command) }
+    requires asked { MayLoad (S.may_ask shelf.old) (form_seen command) }
+    requires number { HasNumber command }
     ensures { Answered (start_of (form_seen command.entry)) result
         (shelf_seen (S.told shelf.old) (S.faults shelf.old) (S.faults shelf.new) (S.taken shelf.old)
         (S.taken shelf.new))
@@ -162,5 +170,6 @@ fn obey<S: Shelf, O: Sink, E: Sink>(
             };
             run_module_file(alloc, words, shelf, out, err)
         }
+        Command::Generate { count } => summarise(alloc, count, out, err),
     }
 }

@@ -31,13 +31,24 @@ fn told<'a>(read: Option<Command<'a>>) -> [&'a str; 5] {
                 stimulus,
             },
         ) => ["runsv", file, text, process, stimulus],
+        Some(Command::Generate { count }) => ["gen", number_of(count), "", "", ""],
         None => ["", "", "", "", ""],
+    }
+}
+
+/// The words of three numbers, and an empty one for every other.
+fn number_of(count: u32) -> &'static str {
+    match count {
+        1 => "1",
+        10 => "10",
+        64 => "64",
+        _ => "",
     }
 }
 
 #[test]
 fn each_form_is_read(rt: HostRuntime) -> Result<(), Fail> {
-    let forms: [(&[&str], [&str; 5]); 4] = [
+    let forms: [(&[&str], [&str; 5]); 7] = [
         (&["check", "f"], ["check", "f", "", "", ""]),
         (&["compile", "f"], ["compile", "f", "", "", ""]),
         (&["run", "f", "p", "s"], ["run", "f", "p", "s", ""]),
@@ -45,6 +56,9 @@ fn each_form_is_read(rt: HostRuntime) -> Result<(), Fail> {
             &["runsv", "f", "m", "p", "s"],
             ["runsv", "f", "m", "p", "s"],
         ),
+        (&["gen", "1"], ["gen", "1", "", "", ""]),
+        (&["gen", "10"], ["gen", "10", "", "", ""]),
+        (&["gen", "64"], ["gen", "64", "", "", ""]),
     ];
     for (words, wanted) in forms.iter() {
         let list = list_of(rt.alloc(), words)?;
@@ -55,7 +69,7 @@ fn each_form_is_read(rt: HostRuntime) -> Result<(), Fail> {
 
 #[test]
 fn words_without_a_form_are_not_read(rt: HostRuntime) -> Result<(), Fail> {
-    let lists: [&[&str]; 10] = [
+    let lists: [&[&str]; 18] = [
         &[],
         &["check", "x", "y"],
         &["help"],
@@ -66,6 +80,14 @@ fn words_without_a_form_are_not_read(rt: HostRuntime) -> Result<(), Fail> {
         &["check", ""],
         &[""],
         &["runsv", "f", "p", "s"],
+        &["gen"],
+        &["gen", "0"],
+        &["gen", "65"],
+        &["gen", "01"],
+        &["gen", "+1"],
+        &["gen", "1x"],
+        &["gen", "4294967297"],
+        &["gen", "1", "2"],
     ];
     for words in lists.iter() {
         let list = list_of(rt.alloc(), words)?;

@@ -4,7 +4,7 @@
 -- their form. The argument: it refuses the empty list, and a first word that is no command's; behind a command's word all words go to
 -- that command, of which `Operands` says what is read and refused.
 use Rattle.std.proofs.Common.{◌≡◌, ◌≢◌, ◌∙◌, inl, inr, subst, Bool, true, false, List, [], ◌∷◌, Some, None, refl, sym, ap, ap₂, is_some}
-use Rattle.std.specs.Prelude.{bytes_eq, if◌then◌else◌, option_map}
+use Rattle.std.specs.Prelude.{bytes_eq, if◌then◌else◌, option_and_then}
 use Rattle.std.specs.List.{list_all}
 use Rattle.std.proofs.lemmas.Bool.Decides.{same_from_decides}
 use Rattle.std.proofs.lemmas.Slice.Eq.{bytes_eq-Decides}
@@ -18,8 +18,8 @@ use Rattle.clap.specs.Faults.{check_fault, defaults_fault, entered_fault, fault_
 use Rattle.clap.specs.declared.error.kind.ErrorKind.{ErrorKind}
 use Rattle.clap.specs.declared.error.kind.ErrorKind.TheVariants.{InvalidSubcommand, OutOfMemory, UnknownArgument}
 use Rattle.clap.proofs.WalkLemmas.{both}
-use Rattle.command_words.specs.Form.{Command, check, compile, fill, form_of, is_operand, parts_of, run, runsv, word_of}
-use Rattle.command_words.specs.Matched.{form_matched, operands_in, tool}
+use Rattle.command_words.specs.Form.{Command, check, compile, fill, form_of, gen, is_operand, parts_of, run, runsv, word_of}
+use Rattle.command_words.specs.Matched.{form_matched, form_suited, operands_in, tool}
 use Rattle.command_words.proofs.Walks.{IsPlainWord, collects, plain_word, refuses_nothing, stopped_at}
 use Rattle.command_words.proofs.Operands.{Reads, fails, fits, leaf, reads}
 
@@ -43,22 +43,24 @@ compared_by : (one other : Text) (test : Bool) → bytes_eq one other ≡ test �
 compared_by one other true is = same ((bytes_eq-Decides one other).0 is)
 compared_by one other false is = differs is
 
-names_by : (word : Text) → Is word (word_of check) → Is word (word_of compile) → Is word (word_of run) → Is word (word_of runsv) → Names word
-names_by word (same is) _ _ _ = names check is
-names_by word (differs _) (same is) _ _ = names compile is
-names_by word (differs _) (differs _) (same is) _ = names run is
-names_by word (differs _) (differs _) (differs _) (same is) = names runsv is
-names_by word (differs first) (differs second) (differs third) (differs fourth) = names_none each
+names_by : (word : Text) → Is word (word_of check) → Is word (word_of compile) → Is word (word_of run) → Is word (word_of runsv) → Is word (word_of gen) → Names word
+names_by word (same is) _ _ _ _ = names check is
+names_by word (differs _) (same is) _ _ _ = names compile is
+names_by word (differs _) (differs _) (same is) _ _ = names run is
+names_by word (differs _) (differs _) (differs _) (same is) _ = names runsv is
+names_by word (differs _) (differs _) (differs _) (differs _) (same is) = names gen is
+names_by word (differs first) (differs second) (differs third) (differs fourth) (differs fifth) = names_none each
   where
     each : (command : Command) → (bytes_eq word (word_of command) ≡ false) × (bytes_eq (word_of command) word ≡ false)
     each check = (first, same_backwards (word_of check) word ∙ first)
     each compile = (second, same_backwards (word_of compile) word ∙ second)
     each run = (third, same_backwards (word_of run) word ∙ third)
     each runsv = (fourth, same_backwards (word_of runsv) word ∙ fourth)
+    each gen = (fifth, same_backwards (word_of gen) word ∙ fifth)
 
 named : (word : Text) → Names word
 named word = names_by word (compared_by word (word_of check) _ refl) (compared_by word (word_of compile) _ refl)
-    (compared_by word (word_of run) _ refl) (compared_by word (word_of runsv) _ refl)
+    (compared_by word (word_of run) _ refl) (compared_by word (word_of runsv) _ refl) (compared_by word (word_of gen) _ refl)
 
 -- What is read of words.
 
@@ -77,8 +79,8 @@ other_word : (word : Text) (words : List Text) → IsPlainWord word
 unfolding walk_fault defaults_fault
 other_word word words plain none =
     has_none UnknownArgument (InvalidSubcommand ∷ [])
-    (rw ((none check).1, (none compile).1, (none run).1, (none runsv).1, plain.no_dashes, plain.not_long, plain.not_short) refl)
-    (rw ((none check).0, (none compile).0, (none run).0, (none runsv).0) refl)
+    (rw ((none check).1, (none compile).1, (none run).1, (none runsv).1, (none gen).1, plain.no_dashes, plain.not_long, plain.not_short) refl)
+    (rw ((none check).0, (none compile).0, (none run).0, (none runsv).0, (none gen).0) refl)
 
 -- A command's word: what is refused, and what is entered.
 
@@ -100,6 +102,7 @@ walk_to check words = collects whole.top.rules (names_of whole) (walk_from nothi
 walk_to compile words = collects whole.top.rules (names_of whole) (walk_from nothing_held) (word_of compile) [] words
 walk_to run words = collects whole.top.rules (names_of whole) (walk_from nothing_held) (word_of run) [] words
 walk_to runsv words = collects whole.top.rules (names_of whole) (walk_from nothing_held) (word_of runsv) [] words
+walk_to gen words = collects whole.top.rules (names_of whole) (walk_from nothing_held) (word_of gen) [] words
 
 not_refused : (command : Command) (words : List Text) → walk_fault whole.top (names_of whole) (walk_from nothing_held) (word_of command ∷ words) ≡ []
 unfolding walk_fault walked
@@ -107,6 +110,7 @@ not_refused check words = refuses_nothing whole.top (names_of whole) (walk_from 
 not_refused compile words = refuses_nothing whole.top (names_of whole) (walk_from nothing_held) (word_of compile) [] words
 not_refused run words = refuses_nothing whole.top (names_of whole) (walk_from nothing_held) (word_of run) [] words
 not_refused runsv words = refuses_nothing whole.top (names_of whole) (walk_from nothing_held) (word_of runsv) [] words
+not_refused gen words = refuses_nothing whole.top (names_of whole) (walk_from nothing_held) (word_of gen) [] words
 
 abbrev built_for : Command → Shape
 built_for command = leaf (word_of command) (parts_of command)
@@ -118,17 +122,19 @@ faults_below check words = refl
 faults_below compile words = refl
 faults_below run words = refl
 faults_below runsv words = refl
+faults_below gen words = refl
 
 faults_are : (command : Command) (words : List Text) → fault_of tool (word_of command ∷ words)
     ≡ or_else (level_fault (built_for command) [] nothing_held words false []) []
 faults_are command words = ap₂ faults_at (walk_to command words) (not_refused command words) ∙ faults_below command words
 
 matched_is : (command : Command) (words : List Text) → form_matched (subcommand_of tool (word_of command ∷ words))
-    ≡ option_map (λ operands. record { command = command; operands = operands }) (operands_in (parts_of command) (rows_after (built_for command).rules [] words))
+    ≡ option_and_then (form_suited command) (operands_in (parts_of command) (rows_after (built_for command).rules [] words))
 matched_is check words = ap (λ (w : Walk). form_matched (entered whole w.stopped)) (walk_to check words)
 matched_is compile words = ap (λ (w : Walk). form_matched (entered whole w.stopped)) (walk_to compile words)
 matched_is run words = ap (λ (w : Walk). form_matched (entered whole w.stopped)) (walk_to run words)
 matched_is runsv words = ap (λ (w : Walk). form_matched (entered whole w.stopped)) (walk_to runsv words)
+matched_is gen words = ap (λ (w : Walk). form_matched (entered whole w.stopped)) (walk_to gen words)
 
 -- the form that the words have
 form_is : (command : Command) (words : List Text) → form_of (word_of command ∷ words)
@@ -137,6 +143,7 @@ form_is check words = refl
 form_is compile words = refl
 form_is run words = refl
 form_is runsv words = refl
+form_is gen words = refl
 
 command_word_by : (command : Command) (words : List Text)
     → Reads (parts_of command) words (level_fault (built_for command) [] nothing_held words false [])

@@ -2,5 +2,7 @@
 pub mod Walks
 pub mod Operands
 pub mod Forms
+-- The number that a word is.
+pub mod Numbers
 -- Examples.
 pub mod Examples

@@ -1,9 +1,9 @@
 -- What clap reads of the operands of a command.
 --
 -- The claim: words that may stand for operands are refused exactly where they are not one for each part, and else each part has
--- its word. The argument: the walk gives each word to the next part (`Walks`), so once the number of words is known, all that is
+-- its word, whatever it asks for. The argument: the walk gives each word to the next part (`Walks`), so once the number of words is known, all that is
 -- read and refused computes, whatever the words say.
-use Rattle.std.proofs.Common.{◌≡◌, Bool, true, false, List, [], ◌∷◌, Option, Some, refl}
+use Rattle.std.proofs.Common.{◌≡◌, ◌∙◌, ◌&&◌, Bool, true, false, List, [], ◌∷◌, Option, Some, refl, ap, sym}
 use Rattle.std.specs.Prelude.{map}
 use Rattle.std.specs.List.{list_all}
 use Rattle.clap.specs.Walk.{Text, Walk, finished, nothing_held, rows_after, settled, walk_from}
@@ -12,8 +12,8 @@ use Rattle.clap.specs.Kinds.{Kinds, or_else}
 use Rattle.clap.specs.Faults.{check_fault, defaults_fault, level_fault, settle_fault}
 use Rattle.clap.specs.declared.error.kind.ErrorKind.{ErrorKind}
 use Rattle.clap.proofs.WalkLemmas.{both}
-use Rattle.command_words.specs.Form.{Command, Part, check, compile, fill, is_operand, parts_of, run, runsv, word_of}
-use Rattle.command_words.specs.Matched.{operand_rule, operands_in}
+use Rattle.command_words.specs.Form.{Command, Part, check, compile, fill, gen, is_operand, parts_of, run, runsv, suits, word_of}
+use Rattle.command_words.specs.Matched.{operand_rule, operands_in, suited}
 use Rattle.command_words.proofs.Walks.{IsOpen, is_single, reached, refused, refuses, walks}
 
 -- a subcommand as clap has built it
@@ -30,7 +30,7 @@ leaf name parts = record (new_app name).top {
 -- The words for the parts of a command: what is refused, and what is read.
 
 pub data Reads (parts : List Part) (words : List Text) (faults : Kinds) (operands : Option (List Text)) : Type 0 where
-  fits : fill parts words ≡ true → faults ≡ [] → operands ≡ Some words → Reads parts words faults operands
+  fits : fill parts words ≡ suited parts words → faults ≡ [] → operands ≡ Some words → Reads parts words faults operands
   fails : (kind : ErrorKind) (kinds : Kinds) → fill parts words ≡ false → faults ≡ kind ∷ kinds → Reads parts words faults operands
 
 -- as many
@@ -40,13 +40,19 @@ same_count [] (word ∷ words) = false
 same_count (part ∷ parts) [] = false
 same_count (part ∷ parts) (word ∷ words) = same_count parts words
 
-filled : (parts : List Part) (words : List Text) → list_all is_operand words ≡ true → fill parts words ≡ same_count parts words
+one_more : (here count rest : Bool) → here && (count && rest) ≡ count && (here && rest)
+one_more true count rest = refl
+one_more false true rest = refl
+one_more false false rest = refl
+
+filled : (parts : List Part) (words : List Text) → list_all is_operand words ≡ true → fill parts words ≡ same_count parts words && suited parts words
 filled [] [] operands = refl
 filled [] (word ∷ words) operands = refl
 filled (part ∷ parts) [] operands = refl
 filled (part ∷ parts) (word ∷ words) operands =
     let split = both (is_operand word) (list_all is_operand words) operands in
-    rw (split.0) (filled parts words split.1)
+    rw (split.0) (ap (λ rest. suits part.kind word && rest) (filled parts words split.1)
+    ∙ one_more (suits part.kind word) (same_count parts words) (suited parts words))
 
 -- The walk over them.
 
@@ -78,15 +84,21 @@ ReadsWith name parts words =
 one_part : (name : Text) (words : List Text) → list_all is_operand words ≡ true → ReadsWith name (parts_of check) words
 unfolding defaults_fault
 one_part name [] operands = fails _ _ refl refl
-one_part name (file ∷ []) operands = fits operands refl refl
+one_part name (file ∷ []) operands = fits (filled (parts_of check) (file ∷ []) operands) refl refl
 one_part name (file ∷ other ∷ words) operands = fails _ _ (filled (parts_of check) (file ∷ other ∷ words) operands) refl
+
+one_number : (name : Text) (words : List Text) → list_all is_operand words ≡ true → ReadsWith name (parts_of gen) words
+unfolding defaults_fault
+one_number name [] operands = fails _ _ refl refl
+one_number name (number ∷ []) operands = fits (filled (parts_of gen) (number ∷ []) operands) refl refl
+one_number name (number ∷ other ∷ words) operands = fails _ _ (filled (parts_of gen) (number ∷ other ∷ words) operands) refl
 
 three_parts : (name : Text) (words : List Text) → list_all is_operand words ≡ true → ReadsWith name (parts_of run) words
 unfolding defaults_fault
 three_parts name [] operands = fails _ _ refl refl
 three_parts name (file ∷ []) operands = fails _ _ (filled (parts_of run) (file ∷ []) operands) refl
 three_parts name (file ∷ process ∷ []) operands = fails _ _ (filled (parts_of run) (file ∷ process ∷ []) operands) refl
-three_parts name (file ∷ process ∷ stimulus ∷ []) operands = fits operands refl refl
+three_parts name (file ∷ process ∷ stimulus ∷ []) operands = fits (filled (parts_of run) (file ∷ process ∷ stimulus ∷ []) operands) refl refl
 three_parts name (file ∷ process ∷ stimulus ∷ other ∷ words) operands =
     fails _ _ (filled (parts_of run) (file ∷ process ∷ stimulus ∷ other ∷ words) operands) refl
 
@@ -96,7 +108,7 @@ four_parts name [] operands = fails _ _ refl refl
 four_parts name (file ∷ []) operands = fails _ _ (filled (parts_of runsv) (file ∷ []) operands) refl
 four_parts name (file ∷ text ∷ []) operands = fails _ _ (filled (parts_of runsv) (file ∷ text ∷ []) operands) refl
 four_parts name (file ∷ text ∷ process ∷ []) operands = fails _ _ (filled (parts_of runsv) (file ∷ text ∷ process ∷ []) operands) refl
-four_parts name (file ∷ text ∷ process ∷ stimulus ∷ []) operands = fits operands refl refl
+four_parts name (file ∷ text ∷ process ∷ stimulus ∷ []) operands = fits (filled (parts_of runsv) (file ∷ text ∷ process ∷ stimulus ∷ []) operands) refl refl
 four_parts name (file ∷ text ∷ process ∷ stimulus ∷ other ∷ words) operands =
     fails _ _ (filled (parts_of runsv) (file ∷ text ∷ process ∷ stimulus ∷ other ∷ words) operands) refl
 
@@ -107,12 +119,14 @@ with_parts check words operands = one_part (word_of check) words operands
 with_parts compile words operands = one_part (word_of compile) words operands
 with_parts run words operands = three_parts (word_of run) words operands
 with_parts runsv words operands = four_parts (word_of runsv) words operands
+with_parts gen words operands = one_number (word_of gen) words operands
 
 single : (command : Command) → list_all is_single (leaf (word_of command) (parts_of command)).rules ≡ true
 single check = refl
 single compile = refl
 single run = refl
 single runsv = refl
+single gen = refl
 
 pub reads : (command : Command) (words : List Text) → list_all is_operand words ≡ true
     → Reads (parts_of command) words (level_fault (leaf (word_of command) (parts_of command)) [] nothing_held words false [])

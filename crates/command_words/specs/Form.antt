@@ -1,8 +1,9 @@
 -- The commands that are built, and their forms: which words ask for which command, and what it loads.
 --
 -- A form is a command's word, and then one word for each of its parts. Under the word of a part a file is loaded, of
--- at most so many bytes, or the word is taken as it is.
-use Rattle.std.specs.Prelude.{ℕ, ◌==◌, ◌&&◌, not, Bool, true, false, if◌then◌else◌, List, [], ◌∷◌, ◌++◌, codes, bytes_eq, map, String, string_bytes, Option, Some, None}
+-- at most so many bytes, or the word is a number, or it is taken as it is.
+use Rattle.std.specs.Prelude.{ℕ, zero, suc, ◌+◌, ◌==◌, ◌&&◌, not, Bool, true, false, if◌then◌else◌, List, [], ◌∷◌, ◌++◌, codes, bytes_eq, map, String, string_bytes, Option, Some, None, is_some}
+use Rattle.std.specs.Fmt.{decimal}
 use Rattle.std.specs.List.{AllByRecursion, flat_map}
 use Rattle.std.specs.declared.alloc.Global.{Global}
 
@@ -12,11 +13,18 @@ pub data Command : Type 0 where
   compile : Command
   run : Command
   runsv : Command
+  gen : Command
 
--- a part of a form: its name in the usage line, and the most bytes of the file that is loaded under its word, if one is
+-- what a word for a part is: the name of a file of at most so many bytes, which is loaded, a number, or any word
+pub data Kind : Type 0 where
+  File : (limit : ℕ) → Kind
+  Number : Kind
+  Word : Kind
+
+-- a part of a form: its name in the usage line, and what its word is
 pub record Part : Type 0 where
   pub label : List ℕ
-  pub limit : Option ℕ
+  pub kind : Kind
 
 -- the most bytes of a source file
 abbrev pub longest_file : ℕ
@@ -36,22 +44,24 @@ word_of check = codes "check"
 word_of compile = codes "compile"
 word_of run = codes "run"
 word_of runsv = codes "runsv"
+word_of gen = codes "gen"
 
 -- a command's parts, in order
 abbrev pub parts_of : Command → List Part
-parts_of check = (record { label = codes "FILE"; limit = Some longest_file }) ∷ []
-parts_of compile = (record { label = codes "FILE"; limit = Some longest_file }) ∷ []
+parts_of check = (record { label = codes "FILE"; kind = File longest_file }) ∷ []
+parts_of compile = (record { label = codes "FILE"; kind = File longest_file }) ∷ []
 parts_of run =
-    (record { label = codes "FILE"; limit = Some longest_file }) ∷ (record { label = codes "PROC"; limit = None })
-    ∷ (record { label = codes "STIM"; limit = Some longest_stimulus }) ∷ []
+    (record { label = codes "FILE"; kind = File longest_file }) ∷ (record { label = codes "PROC"; kind = Word })
+    ∷ (record { label = codes "STIM"; kind = File longest_stimulus }) ∷ []
 parts_of runsv =
-    (record { label = codes "FILE"; limit = Some longest_file })
-    ∷ (record { label = codes "SV"; limit = Some longest_text }) ∷ (record { label = codes "PROC"; limit = None })
-    ∷ (record { label = codes "STIM"; limit = Some longest_stimulus }) ∷ []
+    (record { label = codes "FILE"; kind = File longest_file })
+    ∷ (record { label = codes "SV"; kind = File longest_text }) ∷ (record { label = codes "PROC"; kind = Word })
+    ∷ (record { label = codes "STIM"; kind = File longest_stimulus }) ∷ []
+parts_of gen = (record { label = codes "NUMBER"; kind = Number }) ∷ []
 
 -- all commands, in the order of the usage line
 abbrev pub commands : List Command
-commands = check ∷ compile ∷ run ∷ runsv ∷ []
+commands = check ∷ compile ∷ run ∷ runsv ∷ gen ∷ []
 
 -- The usage line.
 
@@ -84,12 +94,31 @@ abbrev pub is_operand : List ℕ → Bool
 is_operand [] = false
 is_operand (byte ∷ rest) = not (byte == 45)
 
+-- the first of n numbers, from `first` on, that the word is in decimal without leading zeros
+abbrev pub number_among : (first n : ℕ) → List ℕ → Option ℕ
+number_among first zero word = None
+number_among first (suc n) word =
+    if bytes_eq word (decimal first) then Some first else number_among (first + 1) n word
+
+-- the greatest number of a form; the least is 1
+abbrev pub most_number : ℕ
+most_number = 64
+
+unfoldable pub number_of : List ℕ → Option ℕ
+number_of = number_among 1 most_number
+
+-- the word is what a part asks for
+abbrev pub suits : Kind → List ℕ → Bool
+suits (File limit) word = true
+suits Number word = is_some (number_of word)
+suits Word word = true
+
 -- one such word for each part
 abbrev pub fill : List Part → List (List ℕ) → Bool
 fill [] [] = true
 fill [] (word ∷ words) = false
 fill (part ∷ parts) [] = false
-fill (part ∷ parts) (word ∷ words) = is_operand word && fill parts words
+fill (part ∷ parts) (word ∷ words) = is_operand word && (suits part.kind word && fill parts words)
 
 -- the first of the commands whose form the words have
 abbrev pub form_among : List Command → List ℕ → List (List ℕ) → Option Form
@@ -109,14 +138,15 @@ pub record Load : Type 0 where
   pub name : List ℕ
   pub limit : ℕ
 
-abbrev pub load_before : Option ℕ → List ℕ → List Load → List Load
-load_before None name later = later
-load_before (Some limit) name later = (record { name = name; limit = limit }) ∷ later
+abbrev pub load_before : Kind → List ℕ → List Load → List Load
+load_before (File limit) name later = (record { name = name; limit = limit }) ∷ later
+load_before Number name later = later
+load_before Word name later = later
 
 abbrev pub loads_under : List Part → List (List ℕ) → List Load
 loads_under [] operands = []
 loads_under (part ∷ parts) [] = []
-loads_under (part ∷ parts) (operand ∷ operands) = load_before part.limit operand (loads_under parts operands)
+loads_under (part ∷ parts) (operand ∷ operands) = load_before part.kind operand (loads_under parts operands)
 
 -- the files that a form loads, in order
 abbrev pub loads_of : Form → List Load
@@ -143,6 +173,10 @@ run_form file name stimulus = record { command = run; operands = file ∷ name �
 -- `runsv FILE SV PROC STIM`
 abbrev pub runsv_form : List ℕ → List ℕ → List ℕ → List ℕ → Form
 runsv_form file text name stimulus = record { command = runsv; operands = file ∷ text ∷ name ∷ stimulus ∷ [] }
+
+-- `gen NUMBER`
+abbrev pub gen_form : ℕ → Form
+gen_form count = record { command = gen; operands = decimal count ∷ [] }
 
 -- the load of a file, of a text of modules, and of a stimulus
 abbrev pub file_load : List ℕ → Load

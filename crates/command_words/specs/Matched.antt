@@ -1,9 +1,9 @@
 -- The command that clap matches words with, made from the forms, and the form that its matches stand for.
 --
 -- No public clause cites these: they stand between the words and the code that reads them.
-use Rattle.std.specs.Prelude.{ℕ, true, false, if◌then◌else◌, List, [], ◌∷◌, codes, bytes_eq, map, Option, Some, None, option_map, option_and_then}
+use Rattle.std.specs.Prelude.{ℕ, ◌&&◌, Bool, true, false, if◌then◌else◌, List, [], ◌∷◌, codes, bytes_eq, map, Option, Some, None, option_map, option_and_then}
 use Rattle.clap.specs.Words.{App, Row, Rule, Shape, Text, first_of, new_app, new_rule}
-use Rattle.command_words.specs.Form.{Command, Form, Part, commands, parts_of, word_of}
+use Rattle.command_words.specs.Form.{Command, Form, Part, commands, parts_of, suits, word_of}
 
 -- The command.
 
@@ -42,9 +42,18 @@ operands_in (part ∷ parts) rows =
     option_and_then (λ operand. option_map (λ operands. operand ∷ operands) (operands_in parts rows))
     (first_of part.label rows)
 
+-- each word is what its part asks for
+abbrev pub suited : List Part → List Text → Bool
+suited [] words = true
+suited (part ∷ parts) [] = true
+suited (part ∷ parts) (word ∷ words) = suits part.kind word && suited parts words
+
+abbrev pub form_suited : Command → List Text → Option Form
+form_suited command operands =
+    if suited (parts_of command) operands then Some (record { command = command; operands = operands }) else None
+
 abbrev pub form_in : Command → List Row → Option Form
-form_in command rows =
-    option_map (λ operands. record { command = command; operands = operands }) (operands_in (parts_of command) rows)
+form_in command rows = option_and_then (form_suited command) (operands_in (parts_of command) rows)
 
 abbrev pub form_matched_among : List Command → Text → List Row → Option Form
 form_matched_among [] name rows = None

@@ -2,7 +2,7 @@
 ghost use Rattle.std.specs.Prelude.{◌≡◌, IfOk, true, false};
 ghost use Rattle.clap.specs.Words.{app_of, rule_of};
 ghost use Rattle.clap.specs.declared.builder.command.Command.TheViews.{out-Command};
-ghost use Rattle.command_words.specs.Form.{check, parts_of, run, runsv};
+ghost use Rattle.command_words.specs.Form.{check, gen, parts_of, run, runsv};
 ghost use Rattle.command_words.specs.Matched.{operand_rule, subcommand_shape, tool, with_parts};
 
 use clap::{Arg, Command};
@@ -21,7 +21,8 @@ pub(crate) fn matcher<'a>(alloc: Global) -> Result<Command<'a>, AllocError>
         .subcommand(file_command(alloc, "check")?)?
         .subcommand(file_command(alloc, "compile")?)?
         .subcommand(run_command(alloc)?)?
-        .subcommand(run_module_command(alloc)?)
+        .subcommand(run_module_command(alloc)?)?
+        .subcommand(generate_command(alloc)?)
 }
 
 // A command with the one part FILE.
@@ -51,6 +52,13 @@ fn run_module_command<'a>(alloc: Global) -> Result<Command<'a>, AllocError>
         .arg(operand(alloc, "SV"))?
         .arg(operand(alloc, "PROC"))?
         .arg(operand(alloc, "STIM"))
+}
+
+fn generate_command<'a>(alloc: Global) -> Result<Command<'a>, AllocError>
+    ensures shape { IfOk result (λ command. (app_of command).top ≡ subcommand_shape gen) }
+    ensures local { IfOk result (λ command. (out-Command command).has_globals ≡ false) }
+{
+    Command::new(alloc, "gen").arg(operand(alloc, "NUMBER"))
 }
 
 // An argument for a part.

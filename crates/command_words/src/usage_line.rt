@@ -6,5 +6,5 @@ ghost use Rattle.command_words.specs.Form.{usage_line};
 pub fn usage() -> &'static [u8]
     ensures { result.now ≡ usage_line }
 {
-    b"usage: anvil check FILE | compile FILE | run FILE PROC STIM | runsv FILE SV PROC STIM\n"
+    b"usage: anvil check FILE | compile FILE | run FILE PROC STIM | runsv FILE SV PROC STIM | gen NUMBER\n"
 }

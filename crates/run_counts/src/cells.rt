@@ -1,5 +1,5 @@
 //! What is counted of the cells and the registers of one cycle.
-ghost use Rattle.std.specs.Prelude.{◌≡◌, ◌≤◌, length};
+ghost use Rattle.std.specs.Prelude.{◌≡◌, ◌≤◌, ◌*◌, length};
 ghost use Rattle.std.specs.List.{sum_by};
 ghost use Rattle.core_term.specs.Limits.{most_ports};
 ghost use Rattle.run_counts.specs.Counts.{shown_value};
@@ -42,7 +42,8 @@ pub(crate) fn count_met(came: &[InCell], goes: &[OutCell]) -> u64
 
 /// The sum of what the registers show.
 pub(crate) fn sum_of(numbers: &[Bits]) -> u128
-    ensures { result ≡ sum_by shown_value numbers.now }
+    ensures sum { result ≡ sum_by shown_value numbers.now }
+    ensures few { result ≤ length numbers.now * 0x1_0000_0000_0000_0000 }
 {
     let mut sum: u128 = 0;
     for index in 0..numbers.len() {

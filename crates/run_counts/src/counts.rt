@@ -11,7 +11,7 @@ ghost use Rattle.module_log.specs.Stands.{IsMachineOf, StandsBefore};
 ghost use Rattle.run_log.specs.Places.{HasPlaces};
 ghost use Rattle.run_log.specs.Shown.{Shown};
 ghost use Rattle.stim_text.specs.Answers.{most_rows};
-ghost use Rattle.run_counts.specs.Counts.{counts_of, exchanges_at};
+ghost use Rattle.run_counts.specs.Counts.{AreFew, counts_of, exchanges_at};
 
 use crate::cells::{count_met, sum_of};
 use core_term::{CoreProc, OutRow, Row};
@@ -65,11 +65,12 @@ fn count_rows(proc: &CoreProc, rows: &[Row], machine: &mut Machine, shown: &mut 
         (process_of proc.now.name proc.now.ports.items proc.now.regs.items proc.now.threads.items) machine.old }
     requires places { HasPlaces
         (process_of proc.now.name proc.now.ports.items proc.now.regs.items proc.now.threads.items) shown.old }
-    ensures { (seen : Shown)
+    ensures counts { (seen : Shown)
         → StandsBefore (process_of proc.now.name proc.now.ports.items proc.now.regs.items proc.now.threads.items)
         machine.old rows.now seen 0
         → result ≡ counts_of (process_of proc.now.name proc.now.ports.items proc.now.regs.items proc.now.threads.items)
         seen (length rows.now) }
+    ensures few { AreFew result }
 {
     let mut exchanges: u64 = 0;
     let mut registers: u128 = 0;
@@ -98,11 +99,12 @@ pub fn count_module(
     requires same { HasPortsOf
         (process_of proc.now.name proc.now.ports.items proc.now.regs.items proc.now.threads.items)
         «module».now }
-    ensures { IfOk result (λ counts. counts
+    ensures counts { IfOk result (λ counts. counts
         ≡ counts_of (process_of proc.now.name proc.now.ports.items proc.now.regs.items proc.now.threads.items)
         (module_shown (process_of proc.now.name proc.now.ports.items proc.now.regs.items proc.now.threads.items)
         «module».now rows.now)
         (length rows.now)) }
+    ensures few { IfOk result AreFew }
 {
     // read for the fact alone that the module is well-formed
     let _ports = module.ports();

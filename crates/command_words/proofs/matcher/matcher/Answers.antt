@@ -27,6 +27,7 @@ returns c =
     let one = c.in_ok-subcommand.ensures.shape c.in_ok-file_command.ensures.local ∙ ap₂ with_subcommand top c.in_ok-file_command.ensures.shape in
     let two = c.in_ok-subcommand-2.ensures.shape c.in_ok-file_command-2.ensures.local ∙ ap₂ with_subcommand one c.in_ok-file_command-2.ensures.shape in
     let three = c.in_ok-subcommand-3.ensures.shape c.in_ok-run_command.ensures.local ∙ ap₂ with_subcommand two c.in_ok-run_command.ensures.shape in
-    IfOk-weaker c.subcommand-4.result _ _
-    (λ made added. added.shape c.in_ok-run_module_command.ensures.local ∙ ap₂ with_subcommand three c.in_ok-run_module_command.ensures.shape)
-    c.subcommand-4.ensures
+    let four = c.in_ok-subcommand-4.ensures.shape c.in_ok-run_module_command.ensures.local ∙ ap₂ with_subcommand three c.in_ok-run_module_command.ensures.shape in
+    IfOk-weaker c.subcommand-5.result _ _
+    (λ made added. added.shape c.in_ok-generate_command.ensures.local ∙ ap₂ with_subcommand four c.in_ok-generate_command.ensures.shape)
+    c.subcommand-5.ensures

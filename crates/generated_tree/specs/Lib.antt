@@ -1,0 +1,2 @@
+-- The ports of the processes of the generated file.
+pub mod Ports

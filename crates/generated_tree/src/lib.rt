@@ -1,0 +1,4 @@
+//! The processes of the generated file, as its tree has them.
+#![tactic(auto)]
+
+pub mod laws;
