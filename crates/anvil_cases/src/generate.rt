@@ -47,7 +47,7 @@ fn each_generated_file_is_accepted(rt: HostRuntime) -> Result<(), Fail> {
         let bytes = generate(rt.alloc(), count)?;
         let ended = run(rt.alloc(), &["check", "f"], &bytes, NO_FAULTS)?;
         assert_eq!(rt; ended.status, Status::Done, "{count}");
-        assert_eq!(rt; ended.out.bytes(), b"accepted\n", "{count}");
+        assert_eq!(rt; ended.out.bytes(), b"accepted\n".as_slice(), "{count}");
     }
     Ok(())
 }

@@ -3,16 +3,16 @@
 -- The claim: where the shelf tells the file, the text that was written for it and the stimulus, each answer of `runsv` that tells
 -- something of them is one of `run`. The argument: the loads give what the shelf tells, so the text is that of the file, and the law
 -- on logs says the rest; and no process of the file is refused for that text.
-use Rattle.std.proofs.Common.{◌≡◌, ◌⊎◌, inl, inr, ℕ, List, [], ◌∷◌, ◌++◌, Option, Some, refl, sym, subst}
+use Rattle.std.proofs.Common.{◌≡◌, ◌⊎◌, inl, inr, ℕ, List, [], ◌∷◌, Option, Some, subst}
 use Rattle.command_words.specs.Form.{Form, Load, file_load, runsv_form, stimulus_load, text_load}
 use Rattle.tool_answers.specs.declared.refusal.Refusal.{Refusal}
 use Rattle.tool_answers.specs.declared.status.Status.{Status}
-use Rattle.tool_answers.specs.Answer.{IsFirstRefusal, Leads, MayGive, Passes}
+use Rattle.tool_answers.specs.Answer.{Leads, MayGive}
 use Rattle.tool_answers.specs.Answered.{Answered, ShelfSeen, SinkSeen}
 use Rattle.tool_answers.proofs.Ways.{last_reached, next_reached, told_loaded}
 use Rattle.checked_files.specs.Named.{HasProcess, IsProcessRefused}
-use Rattle.anvil_tool.specs.Run.{IsBrokenRun, IsRunLog, IsTextRefused}
-use Rattle.anvil_tool.specs.RunModule.{HasModule, IsBrokenModule, IsModuleLog, IsModuleTextRefused, IsSvRefused}
+use Rattle.anvil_tool.specs.Run.{IsTextRefused}
+use Rattle.anvil_tool.specs.RunModule.{IsBrokenModule, IsModuleLog, IsModuleTextRefused, IsSvRefused}
 use Rattle.anvil_tool.specs.SameLog.{AnswersAsRun, HasOneLog, HasWritten}
 use Rattle.anvil_tool.specs.Stages.{module_goes_on, module_refuses, module_stages, start_of}
 use Rattle.anvil_tool.proofs.ModuleRuns.{sv_or_refused}
@@ -107,7 +107,7 @@ module _ (told : List ℕ → Option (List ℕ)) (form : Form) (bytes name stimu
       ]
     where
       absurd_of : ⊥ → Own refusal
-      absurd_of no = absurd no
+      absurd_of none = absurd none
 
   -- the answer of the call
 

@@ -3,7 +3,7 @@
 -- The claim: the text has a module of the name for each process of the name, with its ports and registers; its log is that of the
 -- source run. The argument: the modules stand in the order of the processes and have their names, and each is promised to have the log
 -- of its process, on input lists that fit, as those of a stimulus are.
-use Rattle.std.proofs.Common.{◌≡◌, ◌∙◌, ℕ, suc, ◌<◌, Bool, true, false, List, [], ◌∷◌, inl, inr, length, map, get_or, Some, refl, ap, sym, subst, arith}
+use Rattle.std.proofs.Common.{◌≡◌, ◌∙◌, ℕ, suc, ◌<◌, Bool, true, false, List, [], ◌∷◌, inl, inr, length, map, get_or, Some, refl, sym, subst, arith}
 use Rattle.std.specs.Prelude.{IsTrue, bytes_eq}
 use Rattle.std.specs.List.{AllZip}
 use Rattle.std.proofs.lemmas.Option.{same_Some}
@@ -13,7 +13,7 @@ use Rattle.core_term.specs.declared.rows.Row.{Row}
 use Rattle.core_term.specs.Breach.{IsFirstBreach}
 use Rattle.core_term.specs.Fitting.{RowsFit}
 use Rattle.core_term.specs.History.{history}
-use Rattle.core_term.specs.Process.{Process, Register}
+use Rattle.core_term.specs.Process.{Process}
 use Rattle.core_term.specs.Rows.{inputs_of, row_fits}
 use Rattle.core_term.proofs.code_tables.FittingRows.{inputs_fit}
 use Rattle.core_term.proofs.source_runs.Exists.{is_history}

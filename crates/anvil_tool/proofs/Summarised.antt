@@ -1,9 +1,18 @@
--- The line of a summary is what `gen` writes.
-use Rattle.std.proofs.Common.{◌≡◌, ℕ, List, ap₂}
+-- The line of a summary is what `gen` writes, and what is promised where it begins is promised of its words.
+use Rattle.std.proofs.Common.{◌≤◌, ℕ, List, ap₂, subst, sym}
+use Rattle.command_words.specs.Form.{gen_form, most_number}
+use Rattle.tool_answers.specs.declared.status.Status.{Status}
+use Rattle.tool_answers.specs.Answered.{Answered, ShelfSeen, SinkSeen}
 use Rattle.checked_files.specs.Check.{IsAcceptedText}
 use Rattle.generated_file.specs.Generated.{generated}
 use Rattle.generated_runs.specs.declared.summary.Summary.{Summary}
 use Rattle.generated_runs.specs.Summary.{IsSummary, IsSummed, summary_line}
+use Rattle.anvil_tool.specs.Stages.{start_of}
+use Rattle.anvil_tool.proofs.Exact.{gen_begins, gen_start}
+
+pub from_start : (count : ℕ) → 1 ≤ count → count ≤ most_number → (status : Status) (shelf : ShelfSeen) (out err : SinkSeen) → Answered (gen_start count) status shelf out err
+    → Answered (start_of (gen_form count)) status shelf out err
+from_start count some few status shelf out err one = subst (λ begin. Answered begin status shelf out err) (sym (gen_begins count some few)) one
 
 abbrev pub line_of : Summary → List ℕ
 line_of summary = summary_line summary.processes summary.bytes summary.totals

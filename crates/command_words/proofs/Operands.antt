@@ -3,7 +3,7 @@
 -- The claim: words that may stand for operands are refused exactly where they are not one for each part, and else each part has
 -- its word, whatever it asks for. The argument: the walk gives each word to the next part (`Walks`), so once the number of words is known, all that is
 -- read and refused computes, whatever the words say.
-use Rattle.std.proofs.Common.{◌≡◌, ◌∙◌, ◌&&◌, Bool, true, false, List, [], ◌∷◌, Option, Some, refl, ap, sym}
+use Rattle.std.proofs.Common.{◌≡◌, ◌∙◌, ◌&&◌, Bool, true, false, List, [], ◌∷◌, Option, Some, refl, ap}
 use Rattle.std.specs.Prelude.{map}
 use Rattle.std.specs.List.{list_all}
 use Rattle.clap.specs.Walk.{Text, Walk, finished, nothing_held, rows_after, settled, walk_from}

@@ -1,5 +1,5 @@
 -- The command that the code reads, as a form.
-use Rattle.std.specs.Prelude.{⊤, ℕ, ◌≤◌}
+use Rattle.std.specs.Prelude.{⊤, ◌≤◌}
 use Rattle.command_words.specs.declared.words.Command.{Command}
 use Rattle.command_words.specs.declared.words.Command.TheVariants.{Check, Compile, Run, RunModule, Generate}
 use Rattle.command_words.specs.Form.{Form, check_form, compile_form, gen_form, most_number, run_form, runsv_form}

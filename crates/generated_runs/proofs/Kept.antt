@@ -1,7 +1,7 @@
 -- On the rows of a generated process every promise is kept.
 --
 -- The claim holds of every process: the rows are all the same, so what comes in on a received port never changes.
-use Rattle.std.proofs.Common.{◌≡◌, ◌∙◌, ℕ, zero, suc, ◌<◌, ◌≤◌, true, List, [], ◌∷◌, map, refl, ap, sym, arith}
+use Rattle.std.proofs.Common.{◌≡◌, ◌∙◌, ℕ, zero, suc, ◌<◌, true, List, [], ◌∷◌, map, ap, sym, arith}
 use Rattle.std.specs.Prelude.{replicate}
 use Rattle.core_term.specs.declared.rows.InCell.{InCell}
 use Rattle.core_term.specs.declared.rows.Row.{Row}

@@ -1,5 +1,5 @@
 -- The sums over one process more.
-use Rattle.std.proofs.Common.{◌≡◌, ◌∙◌, ℕ, ◌+◌, ◌<◌, List, [], ◌∷◌, ◌++◌, length, get_or, map, take, refl, ap, sym, subst, arith}
+use Rattle.std.proofs.Common.{◌≡◌, ◌∙◌, ℕ, ◌+◌, ◌<◌, List, [], ◌∷◌, ◌++◌, length, get_or, take, refl, ap, sym, subst, arith}
 use Rattle.std.specs.List.{sum_by}
 use Rattle.std.proofs.lemmas.List.Sums.{sum_by-append, sum_by-cons}
 use Rattle.std.proofs.lemmas.List.{length-map, length-take, map_push, take_more}
@@ -7,7 +7,7 @@ use Rattle.core_term.specs.declared.process.CoreProc.{CoreProc}
 use Rattle.core_term.specs.AcceptedFile.{file_of, process_in}
 use Rattle.core_term.specs.Process.{Process}
 use Rattle.run_counts.specs.declared.counts.Counts.{Counts}
-use Rattle.generated_runs.specs.Totals.{AreCounted, IsCounted, IsTotalOf, exchanges_of, registers_of, total}
+use Rattle.generated_runs.specs.Totals.{AreCounted, IsCounted, IsTotalOf, exchanges_of, registers_of}
 
 counted_more : (index : ℕ) (processes : List Process) (each : List Counts) (p : Process) (counts : Counts) → AreCounted index processes each
     → IsCounted (index + length processes) p counts → AreCounted index (processes ++ p ∷ []) (each ++ counts ∷ [])

@@ -1,5 +1,5 @@
 -- The processes of the generated file are as many as the number says, have its ports, and keep the timing rules.
-use Rattle.std.proofs.Common.{◌≡◌, ◌∙◌, ℕ, zero, suc, ◌<◌, ◌≤◌, List, [], ◌∷◌, length, get_or, map, refl, ap, sym, subst, arith}
+use Rattle.std.proofs.Common.{◌≡◌, ◌∙◌, ℕ, zero, suc, ◌≤◌, List, [], ◌∷◌, length, map, refl, ap, sym, subst}
 use Rattle.std.specs.Prelude.{replicate}
 use Rattle.std.specs.List.{All}
 use Rattle.std.proofs.lemmas.List.Elements.{All-cons, All-nil}
@@ -7,7 +7,7 @@ use Rattle.std.proofs.lemmas.List.{length-map, length-replicate}
 use Rattle.core_file.specs.CoreFile.{Placed, placed_of}
 use Rattle.core_term.specs.declared.process.CoreProc.{CoreProc}
 use Rattle.core_term.specs.AcceptedFile.{file_of, process_in}
-use Rattle.core_term.specs.Process.{Port, Process}
+use Rattle.core_term.specs.Process.{Process}
 use Rattle.core_term.specs.Rules.{KeepsDemands}
 use Rattle.core_term.specs.Violations.{IsNth}
 use Rattle.core_term.proofs.safe_runs.NoViolations.{from_empty}

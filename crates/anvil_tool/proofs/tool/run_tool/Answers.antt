@@ -1,5 +1,5 @@
 -- The clauses are those of the command, or no memory was found for its words.
-use Rattle.std.proofs.Common.{◌≡◌, ◌⊎◌, inl, inr, List, ℕ, Option, Some, None, refl, subst}
+use Rattle.std.proofs.Common.{◌≡◌, ◌∙◌, ◌⊎◌, inl, inr, List, ℕ, Option, Some, None, refl, subst, sym}
 use Rattle.std.specs.Prelude.{IfSome}
 use Rattle.std.specs.Io.KnownBytes.{Appends}
 use Rattle.command_words.specs.Form.{Form, form_of, words_of}
@@ -11,7 +11,9 @@ use Rattle.tool_answers.specs.Answer.{Breaks, Ends, HasNoFault, IsFirstRefusal, 
 use Rattle.tool_answers.specs.Answered.{Says, ShelfSeen, SinkSeen, shelf_seen, sink_seen}
 use Rattle.tool_answers.specs.Lines.{IsLineOf, no_memory_line, refusal_line}
 use Rattle.tool_answers.proofs.Ways.{no_rise}
+use Rattle.anvil_tool.specs.SameLog.{AnswersAsRun, HasWritten}
 use Rattle.anvil_tool.specs.Stages.{IsLineFor, start_of}
+use Rattle.anvil_tool.proofs.AsRun.{as_run}
 use Rattle.anvil_tool.proofs.tool.run_tool.Goals as goal
 
 -- what holds of every form holds of that which there is
@@ -37,6 +39,31 @@ abbrev Completes : ShelfSeen → (out err : SinkSeen) → Status → Form → Ty
 Completes shelf out err status form = (loaded : List (List ℕ)) → Ends (Tells shelf.told) (start_of form) loaded → HasNoFault shelf.before shelf.now → HasNoFault out.before out.now → HasNoFault err.before err.now
     → (status ≡ Done) ⊎ (status ≡ NoMemory)
 
+abbrev SameLogs : ShelfSeen → (out err : SinkSeen) → Status → Form → Type 0
+SameLogs shelf out err status form = (bytes name stimulus : List ℕ) → HasWritten shelf.told form bytes name stimulus → AnswersAsRun bytes name stimulus status out.old out.new err.old err.new
+
+-- a status is one alone
+both : (status one other : Status) → status ≡ one → status ≡ other → one ≡ other
+both status one other is is_too = sym is ∙ is_too
+
+done_or_memory : Done ≡ NoMemory → ⊥
+done_or_memory same = cc
+
+done_or_fault : Done ≡ WriteFault → ⊥
+done_or_fault same = cc
+
+breach_or_memory : Breach ≡ NoMemory → ⊥
+breach_or_memory same = cc
+
+breach_or_fault : Breach ≡ WriteFault → ⊥
+breach_or_fault same = cc
+
+refused_or_memory : Refused ≡ NoMemory → ⊥
+refused_or_memory same = cc
+
+refused_or_fault : Refused ≡ WriteFault → ⊥
+refused_or_fault same = cc
+
 -- Where no memory was found for the words, whatever form they have.
 module _ (shelf : ShelfSeen) (out err : SinkSeen) (status : Status) (says : Says no_memory_line NoMemory status err) (untouched : IsUntouched out.old out.new out.before out.now) (form : Form) where
   lengths : Lengths shelf status form
@@ -60,6 +87,22 @@ module _ (shelf : ShelfSeen) (out err : SinkSeen) (status : Status) (says : Says
     | inr is ↦ absurd (no_rise err.before err.now lines (says.cause is))
   ]
 
+  same_logs : SameLogs shelf out err status form
+  same_logs bytes name stimulus has = record {
+    done = λ is. absurd (elim says.said [
+      | inl memory ↦ done_or_memory (both status Done NoMemory is memory)
+      | inr fault ↦ done_or_fault (both status Done WriteFault is fault)
+    ]);
+    breach = λ is. absurd (elim says.said [
+      | inl memory ↦ breach_or_memory (both status Breach NoMemory is memory)
+      | inr fault ↦ breach_or_fault (both status Breach WriteFault is fault)
+    ]);
+    refused = λ is. absurd (elim says.said [
+      | inl memory ↦ refused_or_memory (both status Refused NoMemory is memory)
+      | inr fault ↦ refused_or_fault (both status Refused WriteFault is fault)
+    ]);
+  }
+
 memory_line : (told : List ℕ → Option (List ℕ)) (form : Option Form) → IsLineFor told form no_memory_line
 memory_line told None = inr refl
 memory_line told (Some form) = of_memory
@@ -70,8 +113,17 @@ returns-in-Ok-Some-clause-every_breach g c =
     let out = sink_seen (g.O.Sink.held c.args.out.now) (g.O.Sink.held c.obey.new.out) (g.O.Sink.faults c.args.out.now) (g.O.Sink.faults c.obey.new.out) in
     let err = sink_seen (g.E.Sink.held c.args.err.now) (g.E.Sink.held c.obey.new.err) (g.E.Sink.faults c.args.err.now) (g.E.Sink.faults c.obey.new.err) in
     let here : Breaches shelf out err c.obey.result (form_seen c.in-Ok-Some.command) = λ text line broken loads puts lines. c.obey.ensures.every_breach text line broken (record { loads = loads; puts = puts; lines = lines }) in
-    let same : Some (form_seen c.in-Ok-Some.command) ≡ form_of (words_of c.args.words.now) = rw c.in-Ok-Some.field-0-is at c.in-Ok-Some.ensures in
+    let same : Some (form_seen c.in-Ok-Some.command) ≡ form_of (words_of c.args.words.now) = rw c.in-Ok-Some.field-0-is at c.in-Ok-Some.ensures.form in
     subst (λ form. IfSome form (Breaches shelf out err c.obey.result)) same here
+
+pub returns-in-Ok-Some-clause-same_log : goal.returns-in-Ok-Some-clause-same_log
+returns-in-Ok-Some-clause-same_log g c =
+    let shelf = shelf_seen (g.S.Shelf.told c.args.shelf.now) (g.S.Shelf.faults c.args.shelf.now) (g.S.Shelf.faults c.obey.new.shelf) (g.S.Shelf.taken c.args.shelf.now) (g.S.Shelf.taken c.obey.new.shelf) in
+    let out = sink_seen (g.O.Sink.held c.args.out.now) (g.O.Sink.held c.obey.new.out) (g.O.Sink.faults c.args.out.now) (g.O.Sink.faults c.obey.new.out) in
+    let err = sink_seen (g.E.Sink.held c.args.err.now) (g.E.Sink.held c.obey.new.err) (g.E.Sink.faults c.args.err.now) (g.E.Sink.faults c.obey.new.err) in
+    let here : SameLogs shelf out err c.obey.result (form_seen c.in-Ok-Some.command) = λ bytes name stimulus has. as_run (g.S.Shelf.told c.args.shelf.now) (form_seen c.in-Ok-Some.command) bytes name stimulus has c.obey.result shelf out err refl c.obey.ensures in
+    let same : Some (form_seen c.in-Ok-Some.command) ≡ form_of (words_of c.args.words.now) = rw c.in-Ok-Some.field-0-is at c.in-Ok-Some.ensures.form in
+    subst (λ form. IfSome form (SameLogs shelf out err c.obey.result)) same here
 
 pub returns-in-Err-clause-every_length : goal.returns-in-Err-clause-every_length
 returns-in-Err-clause-every_length g c =
@@ -104,3 +156,10 @@ returns-in-Err-clause-complete g c =
     let out = sink_seen (g.O.Sink.held c.args.out.now) (g.O.Sink.held c.args.out.now) (g.O.Sink.faults c.args.out.now) (g.O.Sink.faults c.args.out.now) in
     let err = sink_seen (g.E.Sink.held c.args.err.now) (g.E.Sink.held c.complain_memory.new.err) (g.E.Sink.faults c.args.err.now) (g.E.Sink.faults c.complain_memory.new.err) in
     of_form (form_of (words_of c.args.words.now)) (Completes shelf out err c.complain_memory.result) (completes shelf out err c.complain_memory.result c.complain_memory.ensures (record { same = refl; fine = refl }))
+
+pub returns-in-Err-clause-same_log : goal.returns-in-Err-clause-same_log
+returns-in-Err-clause-same_log g c =
+    let shelf = shelf_seen (g.S.Shelf.told c.args.shelf.now) (g.S.Shelf.faults c.args.shelf.now) (g.S.Shelf.faults c.args.shelf.now) (g.S.Shelf.taken c.args.shelf.now) (g.S.Shelf.taken c.args.shelf.now) in
+    let out = sink_seen (g.O.Sink.held c.args.out.now) (g.O.Sink.held c.args.out.now) (g.O.Sink.faults c.args.out.now) (g.O.Sink.faults c.args.out.now) in
+    let err = sink_seen (g.E.Sink.held c.args.err.now) (g.E.Sink.held c.complain_memory.new.err) (g.E.Sink.faults c.args.err.now) (g.E.Sink.faults c.complain_memory.new.err) in
+    of_form (form_of (words_of c.args.words.now)) (SameLogs shelf out err c.complain_memory.result) (same_logs shelf out err c.complain_memory.result c.complain_memory.ensures (record { same = refl; fine = refl }))

@@ -1,8 +1,7 @@
 -- The number stands for the word that was read.
 use Rattle.std.proofs.Common.{◌≡◌, ◌∙◌, arith, ap, sym, refl, codes, Some}
-use Rattle.std.specs.Prelude.{option_map}
 use Rattle.clap.specs.Words.{first_of, found_of, rows_of}
-use Rattle.command_words.specs.Form.{most_number, number_of}
+use Rattle.command_words.specs.Form.{number_of}
 use Rattle.command_words.proofs.Numbers.{number_of_is}
 use Rattle.command_words.proofs.words.generate_in.Goals as goal
 

@@ -1,13 +1,10 @@
 -- The file is that of the number, and its processes are ready.
-use Rattle.std.proofs.Common.{◌≡◌, ◌∙◌, ap, arith, length, refl, subst, sym}
-use Rattle.std.specs.List.{All}
-use Rattle.core_term.specs.AcceptedFile.{file_of, process_in}
+use Rattle.std.proofs.Common.{◌∙◌, ap, arith, length, refl, subst, sym}
+use Rattle.core_term.specs.AcceptedFile.{file_of}
 use Rattle.checked_files.specs.Check.{IsCheckRefused}
 use Rattle.checked_files.proofs.Ruled.{accepted_or_refused}
 use Rattle.generated_file.specs.Generated.{generated}
-use Rattle.generated_runs.specs.Ready.{IsReady}
 use Rattle.generated_runs.specs.Totals.{IsTotalOf}
-use Rattle.generated_runs.proofs.Ready.{AreReady}
 use Rattle.generated_runs.proofs.Summed.{accepted_text, ready_of, total_of}
 use Rattle.generated_runs.proofs.file.summary_of.Goals as goal
 
