@@ -1,7 +1,7 @@
 //! Texts of modules that no `compile` wrote, and stimuli at their edges. Places and logs are worked out from the formats.
 use crate::bench::{NO_FAULTS, run, run_beside, run_on};
 use crate::programs::{COUNTER, ECHO, MODULE};
-use crate::tables::{case_of, expanded};
+use crate::tables::{case_of, expanded, front_of};
 use anvil_tool::Status;
 use std::test::Fail;
 
@@ -78,7 +78,7 @@ fn foreign_texts_are_no_modules(rt: HostRuntime) -> Result<(), Fail> {
     }
     assert_eq!(rt; rows, 15);
     for (what, kept, behind, place) in &CUT {
-        let mut text = Vec::from_slice(rt.alloc(), &MODULE[..*kept])?;
+        let mut text = front_of(rt.alloc(), MODULE, *kept)?;
         text.extend_from_slice(behind.as_bytes())?;
         let end = run_beside(rt.alloc(), &words, COUNTER, &text, b"\n", NO_FAULTS)?;
         let line = format!(in rt.alloc(); "refused: NotEmitted at {place}\n")?;

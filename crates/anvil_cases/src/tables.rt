@@ -32,6 +32,17 @@ pub fn expanded(alloc: Global, text: &str) -> Result<Vec<u8>, AllocError> {
     Ok(bytes)
 }
 
+/// The first bytes of a text, or all where it has fewer.
+pub fn front_of(alloc: Global, text: &[u8], count: usize) -> Result<Vec<u8>, AllocError> {
+    let mut bytes = Vec::new(alloc);
+    for place in 0..text.len() {
+        if place < count {
+            bytes.push(text[place])?;
+        }
+    }
+    Ok(bytes)
+}
+
 // A part so many times, where `%` is the number, from 0 on.
 fn push_times(bytes: &mut Vec<u8>, count: u32, part: &str) -> Result<(), AllocError> {
     for number in 0..count {
