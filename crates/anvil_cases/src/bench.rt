@@ -54,18 +54,10 @@ pub fn run_beside(
     stimulus: &[u8],
     faults: Faults,
 ) -> Result<Ended, AllocError> {
-    let mut shelf = shelf_of(alloc, file, text, stimulus, faults.loads)?;
-    run_over(alloc, words, &mut shelf, faults)
-}
-
-/// A shelf with these files, of which the loads of these numbers fail.
-pub fn shelf_of(
-    alloc: Global,
-    file: &[u8],
-    text: &[u8],
-    stimulus: &[u8],
-    failing: &[u32],
-) -> Result<MemShelf, AllocError> {
+    let mut list = Vec::new(alloc);
+    for word in words {
+        list.push(String::from_str(alloc, word)?)?;
+    }
     let mut files = Vec::new(alloc);
     files.push((String::from_str(alloc, "f")?, Vec::from_slice(alloc, file)?))?;
     files.push((String::from_str(alloc, "v")?, Vec::from_slice(alloc, text)?))?;
@@ -73,22 +65,9 @@ pub fn shelf_of(
         String::from_str(alloc, "s")?,
         Vec::from_slice(alloc, stimulus)?,
     ))?;
-    Ok(MemShelf::new(files, Vec::from_slice(alloc, failing)?))
-}
-
-/// Runs the tool on words over a shelf that is there; which loads fail is the shelf's.
-pub fn run_over(
-    alloc: Global,
-    words: &[&str],
-    shelf: &mut MemShelf,
-    faults: Faults,
-) -> Result<Ended, AllocError> {
-    let mut list = Vec::new(alloc);
-    for word in words {
-        list.push(String::from_str(alloc, word)?)?;
-    }
+    let mut shelf = MemShelf::new(files, Vec::from_slice(alloc, faults.loads)?);
     let mut out = MemSink::new(alloc, 1048576, Vec::from_slice(alloc, faults.outs)?)?;
     let mut err = MemSink::new(alloc, 1024, Vec::from_slice(alloc, faults.errs)?)?;
-    let status = run_tool(alloc, &list, shelf, &mut out, &mut err);
+    let status = run_tool(alloc, &list, &mut shelf, &mut out, &mut err);
     Ok(Ended { status, out, err })
 }

@@ -1,6 +1,6 @@
 //! The command `check`: files that keep the timing rules, and for each rule files that break it, with the places of both acts. Answers
 //! and places are worked out by hand from the rules.
-use crate::bench::{NO_FAULTS, run};
+use crate::bench::{Faults, NO_FAULTS, run};
 use anvil_tool::Status;
 use std::test::Fail;
 
@@ -112,20 +112,58 @@ fn files_are_accepted_or_refused(rt: HostRuntime) -> Result<(), Fail> {
             assert!(rt; end.status == Status::Done, "{what}");
             assert_eq!(rt; end.out.bytes(), b"accepted\n".as_slice());
             assert_eq!(rt; end.err.bytes(), b"".as_slice());
-            continue;
-        }
-        let line = format!(in rt.alloc(); "refused: {answer}\n")?;
-        assert!(rt; end.status == Status::Refused, "{what}");
-        assert_eq!(rt; end.out.bytes(), b"".as_slice());
-        assert_eq!(rt; end.err.bytes(), line.as_bytes(), "{what}");
-        // `compile` and `run` refuse it with the same line.
-        let commands: [&[&str]; 2] = [&["compile", "f"], &["run", "f", "none", "s"]];
-        for words in commands {
-            let other = run(rt.alloc(), words, file.as_bytes(), NO_FAULTS)?;
-            assert!(rt; other.status == Status::Refused, "{what}");
-            assert_eq!(rt; other.out.bytes(), b"".as_slice());
-            assert_eq!(rt; other.err.bytes(), line.as_bytes(), "{what}");
+        } else {
+            let line = format!(in rt.alloc(); "refused: {answer}\n")?;
+            assert!(rt; end.status == Status::Refused, "{what}");
+            assert_eq!(rt; end.out.bytes(), b"".as_slice());
+            assert_eq!(rt; end.err.bytes(), line.as_bytes(), "{what}");
         }
     }
+    Ok(())
+}
+
+#[test]
+fn compile_and_run_refuse_them_with_the_same_line(rt: HostRuntime) -> Result<(), Fail> {
+    for (what, file, answer) in FILES.iter() {
+        if !answer.is_empty() {
+            let line = format!(in rt.alloc(); "refused: {answer}\n")?;
+            let compiled = run(rt.alloc(), &["compile", "f"], file.as_bytes(), NO_FAULTS)?;
+            assert!(rt; compiled.status == Status::Refused, "{what}");
+            assert_eq!(rt; compiled.out.bytes(), b"".as_slice());
+            assert_eq!(rt; compiled.err.bytes(), line.as_bytes(), "{what}");
+            let ran = run(
+                rt.alloc(),
+                &["run", "f", "none", "s"],
+                file.as_bytes(),
+                NO_FAULTS,
+            )?;
+            assert!(rt; ran.status == Status::Refused, "{what}");
+            assert_eq!(rt; ran.out.bytes(), b"".as_slice());
+            assert_eq!(rt; ran.err.bytes(), line.as_bytes(), "{what}");
+        }
+    }
+    Ok(())
+}
+
+#[test]
+fn the_line_of_an_accepted_file_cannot_be_put(rt: HostRuntime) -> Result<(), Fail> {
+    let faults = Faults {
+        loads: &[],
+        outs: &[0],
+        errs: &[],
+    };
+    let end = run(rt.alloc(), &["check", "f"], b"", faults)?;
+    assert!(rt; end.status == Status::WriteFault);
+    assert!(rt; b"accepted\n".starts_with(end.out.bytes()));
+    assert_eq!(rt; end.err.bytes(), b"".as_slice());
+    Ok(())
+}
+
+#[test]
+fn a_file_that_is_not_there(rt: HostRuntime) -> Result<(), Fail> {
+    let end = run(rt.alloc(), &["check", "none"], b"", NO_FAULTS)?;
+    assert!(rt; end.status == Status::ReadFault);
+    assert_eq!(rt; end.out.bytes(), b"".as_slice());
+    assert_eq!(rt; end.err.bytes(), b"read fault: none\n".as_slice());
     Ok(())
 }

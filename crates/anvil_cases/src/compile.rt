@@ -1,19 +1,32 @@
 //! The command `compile`.
-use crate::bench::{NO_FAULTS, run};
-use crate::programs::{COUNTER, USAGE};
+use crate::bench::{Faults, NO_FAULTS, run};
+use crate::programs::COUNTER;
 use anvil_tool::Status;
 use std::alloc::{AllocError, Global};
 use std::test::Fail;
 
+pub const USAGE: &[u8] =
+    b"usage: anvil check FILE | compile FILE | run FILE PROC STIM | runsv FILE SV PROC STIM | gen NUMBER\n";
+
 /// What the module of a process of the name `c` without ports begins with.
 const HEADER: &[u8] = b"module anvil__c (\n  input logic clk_i,\n  input logic rst_ni\n);\n";
 
-/// And where its first register is `a`, of 8 bits: source registers come before states.
-const COUNTER_HEADER: &[u8] =
-    b"module anvil__c (\n  input logic clk_i,\n  input logic rst_ni\n);\n  logic [7:0] a__q;\n";
+/// The first line behind it where the process has one register `a` of 8 bits: source registers come before states.
+const REGISTER: &[u8] = b"  logic [7:0] a__q;\n";
 
 /// And what every module ends with.
 const LAST_LINE: &[u8] = b"endmodule\n";
+
+#[test]
+fn the_counter_is_compiled(rt: HostRuntime) -> Result<(), Fail> {
+    let done = run(rt.alloc(), &["compile", "f"], COUNTER, NO_FAULTS)?;
+    assert!(rt; done.status == Status::Done);
+    let rest = done.out.bytes().strip_prefix(HEADER);
+    assert!(rt; rest.is_some_and(|lines| lines.starts_with(REGISTER)));
+    assert!(rt; done.out.bytes().ends_with(LAST_LINE));
+    assert_eq!(rt; done.err.bytes(), b"".as_slice());
+    Ok(())
+}
 
 #[test]
 fn words_without_a_form(rt: HostRuntime) -> Result<(), Fail> {
@@ -65,8 +78,7 @@ const ECHO: &[u8] = b"module anvil__e (
 ";
 
 /// Files of processes of several forms, each with what it shows and the header of its module.
-const FORMS: [(&str, &[u8], &[u8]); 9] = [
-    ("a counter", COUNTER, COUNTER_HEADER),
+const FORMS: [(&str, &[u8], &[u8]); 8] = [
     ("no register", b"proc c() { }", HEADER),
     (
         "an endpoint",
@@ -120,7 +132,7 @@ fn processes_of_every_form_are_compiled(rt: HostRuntime) -> Result<(), Fail> {
 // Each is the process of `COUNTER` written another way, so its module is the same.
 #[test]
 fn layout_makes_no_difference(rt: HostRuntime) -> Result<(), Fail> {
-    let files: [(&str, &[u8]); 6] = [
+    let files: [(&str, &[u8]); 5] = [
         (
             "line feeds",
             b"\n\nproc c()\n{\n  reg a : logic[8];\n  loop {\n    set a := *a + 8'd1 >>\n    cycle 2\n  }\n}\n\n",
@@ -141,10 +153,6 @@ fn layout_makes_no_difference(rt: HostRuntime) -> Result<(), Fail> {
             "other bases and leading zeros",
             b"proc c() { reg a : logic[008]; loop { set a := *a + 8'h01 >> cycle 02 } }",
         ),
-        (
-            "classes before and behind it",
-            b"chan v { left m : (logic[1]@#1) } proc c() { reg a : logic[8]; loop { set a := *a + 8'd1 >> cycle 2 } } chan w { right m : (logic[8]@n), left n : (logic[8]@#2) }",
-        ),
     ];
     let counter = run(rt.alloc(), &["compile", "f"], COUNTER, NO_FAULTS)?;
     assert!(rt; counter.status == Status::Done);
@@ -152,6 +160,48 @@ fn layout_makes_no_difference(rt: HostRuntime) -> Result<(), Fail> {
         let done = run(rt.alloc(), &["compile", "f"], file, NO_FAULTS)?;
         assert!(rt; done.status == Status::Done, "{name}");
         assert_eq!(rt; done.out.bytes(), counter.out.bytes(), "{name}");
+        assert_eq!(rt; done.err.bytes(), b"".as_slice());
+    }
+    Ok(())
+}
+
+// Classes stand before and behind the process of `COUNTER`, and nothing is written for them.
+#[test]
+fn classes_make_no_module(rt: HostRuntime) -> Result<(), Fail> {
+    let words: [&str; 2] = ["compile", "f"];
+    let class: &[u8] = b"chan w { left m : (logic[64]@#1) }";
+    let nothing = run(rt.alloc(), &words, class, NO_FAULTS)?;
+    assert!(rt; nothing.status == Status::Done);
+    assert_eq!(rt; nothing.out.bytes(), b"".as_slice());
+    let file: &[u8] =
+        b"chan v { left m : (logic[1]@#1) } proc c() { reg a : logic[8]; loop { set a := *a + 8'd1 >> cycle 2 } } chan w { right m : (logic[8]@n), left n : (logic[8]@#2) }";
+    let done = run(rt.alloc(), &words, file, NO_FAULTS)?;
+    let counter = run(rt.alloc(), &words, COUNTER, NO_FAULTS)?;
+    assert!(rt; done.status == Status::Done && counter.status == Status::Done);
+    assert_eq!(rt; done.out.bytes(), counter.out.bytes());
+    assert_eq!(rt; done.err.bytes(), b"".as_slice());
+    Ok(())
+}
+
+#[test]
+fn files_at_the_limits_are_compiled(rt: HostRuntime) -> Result<(), Fail> {
+    let files: [(&str, &[u8]); 3] = [
+        (
+            "width 64",
+            b"proc c() { reg a : logic[64]; loop { set a := *a + 64'd18446744073709551615 >> cycle 65535 } }",
+        ),
+        (
+            "width 1",
+            b"proc c() { reg a : logic[1]; loop { set a := *a + 1'd0 >> cycle 1 } }",
+        ),
+        (
+            "names of 64 bytes",
+            b"proc aaaaaaaaaabbbbbbbbbbccccccccccddddddddddeeeeeeeeeeffffffffffgggg() { reg Z_9 : logic[8]; loop { set Z_9 := *Z_9 + 8'd1 >> cycle 2 } }",
+        ),
+    ];
+    for (name, file) in files.iter() {
+        let done = run(rt.alloc(), &["compile", "f"], file, NO_FAULTS)?;
+        assert!(rt; done.status == Status::Done, "{name}");
         assert_eq!(rt; done.err.bytes(), b"".as_slice());
     }
     Ok(())
@@ -215,4 +265,74 @@ fn counter(alloc: Global, number: u8) -> Result<Vec<u8>, AllocError> {
         "proc p{number}() {{ reg a : logic[8]; loop {{ set a := *a + 8'd{number} >> cycle 2 }} }}\n"
     )?;
     Vec::from_slice(alloc, text.as_bytes())
+}
+
+#[test]
+fn loads_that_fail(rt: HostRuntime) -> Result<(), Fail> {
+    let absent = run(rt.alloc(), &["compile", "none"], COUNTER, NO_FAULTS)?;
+    assert!(rt; absent.status == Status::ReadFault);
+    assert_eq!(rt; absent.err.bytes(), b"read fault: none\n".as_slice());
+    let faults = Faults {
+        loads: &[0],
+        outs: &[],
+        errs: &[],
+    };
+    let failed = run(rt.alloc(), &["compile", "f"], COUNTER, faults)?;
+    assert!(rt; failed.status == Status::ReadFault);
+    assert_eq!(rt; failed.out.bytes(), b"".as_slice());
+    assert_eq!(rt; failed.err.bytes(), b"read fault: f\n".as_slice());
+    let spaces = Vec::from_elem(rt.alloc(), b' ', 1048577)?;
+    let long = run(rt.alloc(), &["compile", "f"], &spaces, NO_FAULTS)?;
+    assert!(rt; long.status == Status::TooLong);
+    assert_eq!(rt; long.err.bytes(), b"too long: f\n".as_slice());
+    let full = run(rt.alloc(), &["compile", "f"], &spaces[1..], NO_FAULTS)?;
+    assert!(rt; full.status == Status::Done);
+    assert_eq!(rt; full.out.bytes(), b"".as_slice());
+    assert_eq!(rt; full.err.bytes(), b"".as_slice());
+    Ok(())
+}
+
+// The module goes to `out` in many puts. Whichever of them fails, a front part of it stands there, and nothing on `err`.
+#[test]
+fn each_put_fails_in_turn(rt: HostRuntime) -> Result<(), Fail> {
+    let whole = run(rt.alloc(), &["compile", "f"], COUNTER, NO_FAULTS)?;
+    assert!(rt; whole.status == Status::Done);
+    let mut failed = 0u32;
+    for number in 0..10000u32 {
+        let faults = Faults {
+            loads: &[],
+            outs: &[number],
+            errs: &[],
+        };
+        let end = run(rt.alloc(), &["compile", "f"], COUNTER, faults)?;
+        if end.status == Status::Done {
+            break;
+        }
+        assert!(rt; end.status == Status::WriteFault);
+        assert!(rt;
+            whole.out.bytes().starts_with(end.out.bytes()),
+            "put {number}"
+        );
+        assert_eq!(rt; end.err.bytes(), b"".as_slice());
+        failed = number + 1;
+    }
+    assert!(rt; failed > 40 && failed < 10000);
+    Ok(())
+}
+
+#[test]
+fn the_put_of_a_line_fails(rt: HostRuntime) -> Result<(), Fail> {
+    let faults = Faults {
+        loads: &[],
+        outs: &[],
+        errs: &[0],
+    };
+    let usage = run(rt.alloc(), &["help"], COUNTER, faults)?;
+    assert!(rt; usage.status == Status::WriteFault);
+    assert_eq!(rt; usage.out.bytes(), b"".as_slice());
+    assert_eq!(rt;
+        usage.err.bytes(),
+        b"usage: anvil check FILE | compile FILE | run FILE".as_slice()
+    );
+    Ok(())
 }

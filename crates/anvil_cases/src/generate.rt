@@ -1,6 +1,6 @@
 //! The command `gen`: its summaries, and that each generated file is accepted.
 use crate::bench::{NO_FAULTS, run};
-use crate::programs::USAGE;
+use crate::compile::USAGE;
 use anvil_tool::Status;
 use generated_file::generate;
 use std::test::Fail;

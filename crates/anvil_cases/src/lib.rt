@@ -8,20 +8,16 @@ mod check;
 #[cfg(test)]
 mod compile;
 #[cfg(test)]
-mod edges;
-#[cfg(test)]
-mod faults;
-#[cfg(test)]
 mod generate;
 #[cfg(test)]
-mod limits;
+mod modules;
 #[cfg(test)]
 mod names;
 #[cfg(test)]
 mod programs;
 #[cfg(test)]
+mod refused;
+#[cfg(test)]
 mod run;
 #[cfg(test)]
 mod run_module;
-#[cfg(test)]
-mod tables;

@@ -3,10 +3,24 @@
 //! A row of a table is what it shows, a part of a file, and the answer, with ` ~ ` between. The answer is what stands behind `refused: `, or
 //! `compiled` where the file passes every check.
 use crate::bench::{NO_FAULTS, run};
-use crate::tables::case_of;
 use anvil_tool::Status;
 use std::alloc::{AllocError, Global};
 use std::test::Fail;
+
+/// A row of a table.
+#[derive(Clone, Copy)]
+struct Case<'a> {
+    what: &'a str,
+    part: &'a str,
+    answer: &'a str,
+}
+
+// The case of a row, where it is one.
+fn case_of(row: &str) -> Option<Case<'_>> {
+    let (what, rest) = row.split_once(" ~ ")?;
+    let (part, answer) = rest.split_once(" ~ ")?;
+    Some(Case { what, part, answer })
+}
 
 // Parts of a file, one after the other.
 fn joined(alloc: Global, parts: &[&str]) -> Result<Vec<u8>, AllocError> {
@@ -166,5 +180,23 @@ fn each_check_refuses(rt: HostRuntime) -> Result<(), Fail> {
         }
     }
     assert_eq!(rt; rows, 84);
+    Ok(())
+}
+
+// A class of 33 messages, of which a process has two endpoints: the second makes the 65th port.
+#[test]
+fn the_65th_port_is_one_too_many(rt: HostRuntime) -> Result<(), Fail> {
+    let mut text = String::from_str(rt.alloc(), "chan b { left m : (logic[1]@#1)")?;
+    for number in 1..33u8 {
+        let message = format!(in rt.alloc(); ", left m{number} : (logic[1]@#1)")?;
+        text.push_str(&message)?;
+    }
+    text.push_str(" } proc e(p : left b, q : left b) { loop { cycle 1 } }")?;
+    let refused = run(rt.alloc(), &["compile", "f"], text.as_bytes(), NO_FAULTS)?;
+    assert!(rt; refused.status == Status::Refused);
+    assert_eq!(rt;
+        refused.err.bytes(),
+        b"refused: TooManyPorts at 876\n".as_slice()
+    );
     Ok(())
 }

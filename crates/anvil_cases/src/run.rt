@@ -1,8 +1,10 @@
 //! The command `run`: files, stimuli and logs worked out by hand.
-use crate::bench::{NO_FAULTS, run_on};
-use crate::programs::{CLIENT, COUNTER, EACH_CYCLE, ECHO, JOIN, TOGETHER};
+use crate::bench::{Faults, NO_FAULTS, run_on};
+use crate::programs::{CLIENT, COUNTER, ECHO};
 use anvil_tool::Status;
 use std::test::Fail;
+
+const EACH_CYCLE: &[u8] = b"proc c() { reg a : logic[8]; loop { set a := *a + 8'd1 } }";
 
 const ECHO_LOG: &[u8] =
     b"p.req=v0a1d0 p.res=v0a0d-\np.req=v1a1d7 p.res=v1a0d7\np.req=v0a0d7 p.res=v1a1d7\np.req=v0a1d0 p.res=v0a0d-\n";
@@ -10,8 +12,12 @@ const ECHO_LOG: &[u8] =
 /// The lines of `ECHO_LOG` before cycle 2.
 const ECHO_FRONT: &[u8] = b"p.req=v0a1d0 p.res=v0a0d-\np.req=v1a1d7 p.res=v1a0d7\n";
 
+/// Adds what two partners give, whichever comes first.
+const JOIN: &[u8] =
+    b"chan q { left m : (logic[8]@d), right d : (logic[1]@#1) }\nproc j(a : left q, b : left q) { reg r : logic[8]; loop { { let x = recv a.m ; let y = recv b.m ; x >> y >> set r := x + y } >> send a.d(1'd1) >> send b.d(1'd1) >> cycle 1 } }\n";
+
 /// What it shows, the file, the process, the stimulus, the status, and what stands on both sinks.
-const RUNS: [(&str, &[u8], &str, &[u8], Status, &[u8], &[u8]); 18] = [
+const RUNS: [(&str, &[u8], &str, &[u8], Status, &[u8], &[u8]); 17] = [
     (
         "a counter",
         COUNTER,
@@ -28,15 +34,6 @@ const RUNS: [(&str, &[u8], &str, &[u8], Status, &[u8], &[u8]); 18] = [
         b"\n\n\n",
         Status::Done,
         b"a=0\na=1\na=2\n",
-        b"",
-    ),
-    (
-        "a wait beside a set, which ends the turn",
-        TOGETHER,
-        "c",
-        b"\n\n\n\n\n",
-        Status::Done,
-        b"a=0\na=1\na=1\na=2\na=2\n",
         b"",
     ),
     (
@@ -182,5 +179,76 @@ fn logs_are_as_worked_out(rt: HostRuntime) -> Result<(), Fail> {
         assert_eq!(rt; ended.out.bytes(), *out, "{what}");
         assert_eq!(rt; ended.err.bytes(), *err, "{what}");
     }
+    Ok(())
+}
+
+#[test]
+fn the_row_after_the_last_is_one_too_many(rt: HostRuntime) -> Result<(), Fail> {
+    let mut text = Vec::new(rt.alloc());
+    for _ in 0..10_001 {
+        text.extend_from_slice(b"0:0 0\n".as_slice())?;
+    }
+    let words: [&str; 4] = ["run", "f", "e", "s"];
+    let many = run_on(rt.alloc(), &words, ECHO, &text, NO_FAULTS)?;
+    assert!(rt; many.status == Status::Refused);
+    assert_eq!(rt; many.out.bytes(), b"".as_slice());
+    assert_eq!(rt; many.err.bytes(), b"refused: TooManyRows\n".as_slice());
+    Ok(())
+}
+
+// The load of the stimulus fails, or there is none under the name.
+#[test]
+fn the_second_load_fails(rt: HostRuntime) -> Result<(), Fail> {
+    let faults = Faults {
+        loads: &[1],
+        outs: &[],
+        errs: &[],
+    };
+    let failed = run_on(
+        rt.alloc(),
+        &["run", "f", "e", "s"],
+        ECHO,
+        b"0:0 0\n",
+        faults,
+    )?;
+    assert!(rt; failed.status == Status::ReadFault);
+    assert_eq!(rt; failed.out.bytes(), b"".as_slice());
+    assert_eq!(rt; failed.err.bytes(), b"read fault: s\n".as_slice());
+    let absent = run_on(rt.alloc(), &["run", "f", "e", "t"], ECHO, b"", NO_FAULTS)?;
+    assert!(rt; absent.status == Status::ReadFault);
+    assert_eq!(rt; absent.err.bytes(), b"read fault: t\n".as_slice());
+    Ok(())
+}
+
+// Whichever put of the log fails, a front part of it stands there, and nothing on `err`; and the line of a broken promise.
+#[test]
+fn each_put_of_a_log_fails(rt: HostRuntime) -> Result<(), Fail> {
+    let words: [&str; 4] = ["run", "f", "e", "s"];
+    let stimulus: &[u8] = b"0:0 0\n1:7 0\n0:7 1\n0:0 0\n";
+    let mut failed = 0u32;
+    for number in 0..200u32 {
+        let faults = Faults {
+            loads: &[],
+            outs: &[number],
+            errs: &[],
+        };
+        let end = run_on(rt.alloc(), &words, ECHO, stimulus, faults)?;
+        if end.status == Status::Done {
+            break;
+        }
+        assert!(rt; end.status == Status::WriteFault);
+        assert!(rt; ECHO_LOG.starts_with(end.out.bytes()), "put {number}");
+        assert_eq!(rt; end.err.bytes(), b"".as_slice());
+        failed = number + 1;
+    }
+    assert!(rt; failed > 4 && failed < 200);
+    let faults = Faults {
+        loads: &[],
+        outs: &[],
+        errs: &[0],
+    };
+    let cut = run_on(rt.alloc(), &words, ECHO, b"0:0 0\n1:7 0\n0:9 1\n", faults)?;
+    assert!(rt; cut.status == Status::WriteFault);
+    assert_eq!(rt; cut.out.bytes(), ECHO_FRONT);
     Ok(())
 }
