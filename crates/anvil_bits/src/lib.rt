@@ -10,9 +10,6 @@ ghost use Rattle.anvil_bits.specs.Operators.{truth, sum_of, difference_of, produ
 
 use std::marker::Model;
 
-#[cfg(test)]
-mod tests;
-
 /// The widest number, in bits: as many as the machine's word that holds one.
 pub const WIDEST: u8 = 64;
 

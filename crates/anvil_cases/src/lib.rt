@@ -1,23 +1,9 @@
-//! Tests of the whole tool: words and files in, bytes and a status out.
+//! Tests of the whole tool over memory, in which loads and puts fail in turn.
 #![tactic(auto)]
 
 #[cfg(test)]
-mod bench;
+mod calls;
 #[cfg(test)]
-mod check;
-#[cfg(test)]
-mod compile;
-#[cfg(test)]
-mod generate;
-#[cfg(test)]
-mod modules;
-#[cfg(test)]
-mod names;
+mod faults;
 #[cfg(test)]
 mod programs;
-#[cfg(test)]
-mod refused;
-#[cfg(test)]
-mod run;
-#[cfg(test)]
-mod run_module;

@@ -88,7 +88,7 @@ fn read_file<R: Files>(
 }
 
 // Reads to the end, or until one byte more than the limit was taken.
-pub(crate) fn read_whole<F: Read>(
+fn read_whole<F: Read>(
     file: &mut F,
     limit: u32,
     into: &mut Vec<u8>,

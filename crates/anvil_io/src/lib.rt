@@ -11,8 +11,6 @@ mod mem_shelf;
 mod mem_sink;
 mod outside;
 mod pieces;
-#[cfg(test)]
-mod tests;
 mod writers;
 
 pub use files::FsShelf;

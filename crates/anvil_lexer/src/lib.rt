@@ -6,13 +6,9 @@ mod error;
 mod front;
 mod gap;
 mod good_name;
-#[cfg(test)]
-mod lex_tests;
 mod name;
 mod numeral;
 mod table;
-#[cfg(test)]
-mod tests;
 mod token;
 mod tokens;
 

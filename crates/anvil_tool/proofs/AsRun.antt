@@ -3,7 +3,7 @@
 -- The claim: where the shelf tells the file, the text that was written for it and the stimulus, each answer of `runsv` that tells
 -- something of them is one of `run`. The argument: the loads give what the shelf tells, so the text is that of the file, and the law
 -- on logs says the rest; and no process of the file is refused for that text.
-use Rattle.std.proofs.Common.{◌≡◌, ◌⊎◌, inl, inr, ℕ, List, [], ◌∷◌, Option, Some, subst}
+use Rattle.std.proofs.Common.{◌≡◌, ◌⊎◌, inl, inr, ℕ, List, [], ◌∷◌, ◌++◌, Option, Some, subst}
 use Rattle.command_words.specs.Form.{Form, Load, file_load, runsv_form, stimulus_load, text_load}
 use Rattle.tool_answers.specs.declared.refusal.Refusal.{Refusal}
 use Rattle.tool_answers.specs.declared.status.Status.{Status}
@@ -14,7 +14,7 @@ use Rattle.checked_files.specs.Named.{HasProcess, IsProcessRefused}
 use Rattle.anvil_tool.specs.Run.{IsTextRefused}
 use Rattle.anvil_tool.specs.RunModule.{IsBrokenModule, IsModuleLog, IsModuleTextRefused, IsSvRefused}
 use Rattle.anvil_tool.specs.SameLog.{AnswersAsRun, HasOneLog, HasWritten}
-use Rattle.anvil_tool.specs.Stages.{module_goes_on, module_refuses, module_stages, start_of}
+use Rattle.anvil_tool.specs.Stages.{module_goes_on, module_refuses, module_texts, start_of}
 use Rattle.anvil_tool.proofs.ModuleRuns.{sv_or_refused}
 use Rattle.anvil_tool.proofs.SameLog.{logs_are_one}
 
@@ -31,39 +31,40 @@ module _ (told : List ℕ → Option (List ℕ)) (form : Form) (bytes name stimu
   one_log : HasOneLog bytes has.modules name stimulus
   one_log = logs_are_one bytes has.modules name stimulus has.written
 
-  -- the load of the stimulus is to come, that of the text, and that of the file
+  -- each load gives what the shelf tells, so the stage that is reached is known
 
-  given : (load : Load) (there found : List ℕ) → told load.name ≡ Some there → MayGive told load found → found ≡ there
-  given load there found tells gave = told_loaded (told load.name) there found tells gave.kept
-
-  last_loads : List Load
-  last_loads = stimulus_load has.rows ∷ []
-
-  -- what is loaded behind the last stage
-
-  third : (loaded : List (List ℕ)) → Ways loaded [] (bytes ∷ has.modules ∷ []) (stimulus_load has.rows ∷ []) → loaded ≡ bytes ∷ has.modules ∷ stimulus ∷ []
-  third loaded leads = elim (next_reached gives (module_goes_on name) loaded [] (bytes ∷ has.modules ∷ []) (stimulus_load has.rows) [] leads) [
-    | inl (same, rest) ↦ absurd cc
-    | inr (found, went, gave, later) ↦
-        let is = given (stimulus_load has.rows) stimulus found has.of_rows gave in
-        subst (λ one. loaded ≡ bytes ∷ has.modules ∷ one ∷ []) is (last_reached gives (module_goes_on name) loaded [] (bytes ∷ has.modules ∷ found ∷ []) later).0
+  next : (loaded : List (List ℕ)) (rest : List Load) (before : List (List ℕ)) (load : Load) (loads : List Load) (there : List ℕ) → told load.name ≡ Some there → Ways loaded rest before (load ∷ loads)
+      → (loaded ≡ before) ⊎ (module_goes_on name before × Ways loaded rest (before ++ there ∷ []) loads)
+  next loaded rest before load loads there is leads = elim (next_reached gives (module_goes_on name) loaded rest before load loads leads) [
+    | inl (same, others) ↦ inl same
+    | inr (found, went, gave, later) ↦ inr (went, subst (λ one. Ways loaded rest (before ++ one ∷ []) loads) (told_loaded (told load.name) there found is gave.kept) later)
   ]
 
-  second : (loaded : List (List ℕ)) → Ways loaded [] (bytes ∷ []) (text_load has.text ∷ stimulus_load has.rows ∷ []) → loaded ≡ bytes ∷ has.modules ∷ stimulus ∷ []
-  second loaded leads = elim (next_reached gives (module_goes_on name) loaded [] (bytes ∷ []) (text_load has.text) (stimulus_load has.rows ∷ []) leads) [
-    | inl (same, rest) ↦ absurd cc
-    | inr (found, went, gave, later) ↦
-        third loaded (subst (λ one. Ways loaded [] (bytes ∷ one ∷ []) (stimulus_load has.rows ∷ [])) (given (text_load has.text) has.modules found has.of_text gave) later)
+  abbrev Reached : List (List ℕ) → Type 0
+  Reached loaded =
+      (loaded ≡ []) ⊎ ((loaded ≡ bytes ∷ []) ⊎ ((HasProcess bytes name × (loaded ≡ bytes ∷ has.modules ∷ [])) ⊎ (loaded ≡ bytes ∷ has.modules ∷ stimulus ∷ [])))
+
+  reached : (loaded : List (List ℕ)) (rest : List Load) → Ways loaded rest [] (file_load has.file ∷ text_load has.text ∷ stimulus_load has.rows ∷ []) → Reached loaded
+  reached loaded rest leads = elim (next loaded rest [] (file_load has.file) (text_load has.text ∷ stimulus_load has.rows ∷ []) bytes has.of_file leads) [
+    | inl same ↦ inl same
+    | inr (start, second) ↦ elim (next loaded rest (bytes ∷ []) (text_load has.text) (stimulus_load has.rows ∷ []) has.modules has.of_text second) [
+      | inl same ↦ inr (inl same)
+      | inr (process, third) ↦ elim (next loaded rest (bytes ∷ has.modules ∷ []) (stimulus_load has.rows) [] stimulus has.of_rows third) [
+        | inl same ↦ inr (inr (inl (process, same)))
+        | inr (went, last) ↦ inr (inr (inr (last_reached gives (module_goes_on name) loaded rest (bytes ∷ has.modules ∷ stimulus ∷ []) last).0))
+      ]
+    ]
   ]
 
-  first : (loaded : List (List ℕ)) → Ways loaded [] [] (file_load has.file ∷ text_load has.text ∷ stimulus_load has.rows ∷ []) → loaded ≡ bytes ∷ has.modules ∷ stimulus ∷ []
-  first loaded leads = elim (next_reached gives (module_goes_on name) loaded [] [] (file_load has.file) (text_load has.text ∷ stimulus_load has.rows ∷ []) leads) [
-    | inl (same, rest) ↦ absurd cc
-    | inr (found, went, gave, later) ↦
-        second loaded (subst (λ one. Ways loaded [] (one ∷ []) (text_load has.text ∷ stimulus_load has.rows ∷ [])) (given (file_load has.file) bytes found has.of_file gave) later)
-  ]
+  -- a text is one of all three files
 
-  -- the refusal of a stage
+  text_of : (texts : (file text rows : List ℕ) → Type 0) (loaded : List (List ℕ)) → Reached loaded → module_texts texts loaded → texts bytes has.modules stimulus
+  text_of texts loaded (inl is) some = absurd (subst (λ one. module_texts texts one) is some)
+  text_of texts loaded (inr (inl is)) some = absurd (subst (λ one. module_texts texts one) is some)
+  text_of texts loaded (inr (inr (inl (process, is)))) some = absurd (subst (λ one. module_texts texts one) is some)
+  text_of texts loaded (inr (inr (inr is))) some = subst (λ one. module_texts texts one) is some
+
+  -- a refusal is one of the process or of the stimulus, since the text has the module of the process
 
   abbrev Own : Refusal → Type 0
   Own refusal = IsProcessRefused bytes name refusal ⊎ IsTextRefused bytes name stimulus refusal
@@ -71,43 +72,13 @@ module _ (told : List ℕ → Option (List ℕ)) (form : Form) (bytes name stimu
   of_rows : (refusal : Refusal) → IsModuleTextRefused bytes has.modules name stimulus refusal → Own refusal
   of_rows refusal refused = inr (record { process = refused.process; of_file = refused.pair.of_file; refused = refused.refused })
 
-  refused_third : (loaded : List (List ℕ)) (rest : List Load) (refusal : Refusal) → HasProcess bytes name → module_refuses name loaded refusal
-      → Ways loaded rest (bytes ∷ has.modules ∷ []) (stimulus_load has.rows ∷ []) → Own refusal
-  refused_third loaded rest refusal process refuses leads =
-      elim (next_reached gives (module_goes_on name) loaded rest (bytes ∷ has.modules ∷ []) (stimulus_load has.rows) [] leads) [
-        | inl (same, others) ↦
-            let here : IsSvRefused bytes has.modules name refusal = subst (λ one. module_refuses name one refusal) same refuses in
-            absurd (sv_or_refused bytes has.modules name refusal here (one_log.has_module process))
-        | inr (found, went, gave, later) ↦
-            let is = given (stimulus_load has.rows) stimulus found has.of_rows gave in
-            let same = (last_reached gives (module_goes_on name) loaded rest (bytes ∷ has.modules ∷ found ∷ []) later).0 in
-            let here : IsModuleTextRefused bytes has.modules name found refusal = subst (λ one. module_refuses name one refusal) same refuses in
-            of_rows refusal (subst (λ one. IsModuleTextRefused bytes has.modules name one refusal) is here)
-      ]
-
-  refused_second : (loaded : List (List ℕ)) (rest : List Load) (refusal : Refusal) → module_refuses name loaded refusal
-      → Ways loaded rest (bytes ∷ []) (text_load has.text ∷ stimulus_load has.rows ∷ []) → Own refusal
-  refused_second loaded rest refusal refuses leads =
-      elim (next_reached gives (module_goes_on name) loaded rest (bytes ∷ []) (text_load has.text) (stimulus_load has.rows ∷ []) leads) [
-        | inl (same, others) ↦
-            let here : IsProcessRefused bytes name refusal = subst (λ one. module_refuses name one refusal) same refuses in inl here
-        | inr (found, went, gave, later) ↦
-            refused_third loaded rest refusal went refuses
-            (subst (λ one. Ways loaded rest (bytes ∷ one ∷ []) (stimulus_load has.rows ∷ [])) (given (text_load has.text) has.modules found has.of_text gave) later)
-      ]
-
-  refused_first : (loaded : List (List ℕ)) (rest : List Load) (refusal : Refusal) → module_refuses name loaded refusal
-      → Ways loaded rest [] (file_load has.file ∷ text_load has.text ∷ stimulus_load has.rows ∷ []) → Own refusal
-  refused_first loaded rest refusal refuses leads =
-      elim (next_reached gives (module_goes_on name) loaded rest [] (file_load has.file) (text_load has.text ∷ stimulus_load has.rows ∷ []) leads) [
-        | inl (same, others) ↦ absurd_of (subst (λ one. module_refuses name one refusal) same refuses)
-        | inr (found, went, gave, later) ↦
-            refused_second loaded rest refusal refuses
-            (subst (λ one. Ways loaded rest (one ∷ []) (text_load has.text ∷ stimulus_load has.rows ∷ [])) (given (file_load has.file) bytes found has.of_file gave) later)
-      ]
-    where
-      absurd_of : ⊥ → Own refusal
-      absurd_of none = absurd none
+  refusal_of : (loaded : List (List ℕ)) (refusal : Refusal) → Reached loaded → module_refuses name loaded refusal → Own refusal
+  refusal_of loaded refusal (inl is) refuses = absurd (subst (λ one. module_refuses name one refusal) is refuses)
+  refusal_of loaded refusal (inr (inl is)) refuses = inl (subst (λ one. module_refuses name one refusal) is refuses)
+  refusal_of loaded refusal (inr (inr (inl (process, is)))) refuses =
+      let here : IsSvRefused bytes has.modules name refusal = subst (λ one. module_refuses name one refusal) is refuses in
+      absurd (sv_or_refused bytes has.modules name refusal here (one_log.has_module process))
+  refusal_of loaded refusal (inr (inr (inr is))) refuses = of_rows refusal (subst (λ one. module_refuses name one refusal) is refuses)
 
   -- the answer of the call
 
@@ -115,20 +86,24 @@ module _ (told : List ℕ → Option (List ℕ)) (form : Form) (bytes name stimu
       → AnswersAsRun bytes name stimulus status out.old out.new err.old err.new
   as_run status shelf out err same answered = by_own (subst (λ one. Answered (start_of one) status shelf out err) has.is answered)
     where
+      as_told : (loaded : List (List ℕ)) (rest : List Load) → Leads (MayGive shelf.told) (module_goes_on name) loaded rest [] (start_of own).loads → Ways loaded rest [] (start_of own).loads
+      as_told loaded rest leads = subst (λ some. Leads (MayGive some) (module_goes_on name) loaded rest [] (start_of own).loads) same leads
+
       by_own : Answered (start_of own) status shelf out err → AnswersAsRun bytes name stimulus status out.old out.new err.old err.new
       by_own one = record {
         done = λ is.
             let written = one.done is in
-            let loaded = first written.loaded (subst (λ some. Leads (MayGive some) (module_goes_on name) written.loaded [] [] (start_of own).loads) same written.passes.reached) in
-            let log : IsModuleLog bytes has.modules name stimulus written.text = subst (λ some. (module_stages name).writes some written.text) loaded written.writes in
+            let log : IsModuleLog bytes has.modules name stimulus written.text =
+            text_of (λ file text rows. IsModuleLog file text name rows written.text) written.loaded (reached written.loaded [] (as_told written.loaded [] written.passes.reached)) written.writes in
             (written.text, (one_log.whole written.text).1 log, written.appended);
         breach = λ is.
             let broken = one.breach is in
-            let loaded = first broken.breaks.loaded (subst (λ some. Leads (MayGive some) (module_goes_on name) broken.breaks.loaded [] [] (start_of own).loads) same broken.breaks.passes.reached) in
-            let log : IsBrokenModule bytes has.modules name stimulus broken.text broken.line = subst (λ some. (module_stages name).breaks some broken.text broken.line) loaded broken.breaks.breaks in
+            let stops = broken.breaks in
+            let log : IsBrokenModule bytes has.modules name stimulus broken.text broken.line =
+            text_of (λ file text rows. IsBrokenModule file text name rows broken.text broken.line) stops.loaded (reached stops.loaded [] (as_told stops.loaded [] stops.passes.reached)) stops.breaks in
             (broken.text, broken.line, (one_log.broken broken.text broken.line).1 log, broken.appended, broken.said);
         refused = λ is.
-            let told_why = one.refused is in
-            let why = told_why.first in
-            (told_why.refusal, refused_first why.loaded why.rest told_why.refusal why.refuses (subst (λ some. Leads (MayGive some) (module_goes_on name) why.loaded why.rest [] (start_of own).loads) same why.reached), told_why.appended);
+            let why = one.refused is in
+            let first = why.first in
+            (why.refusal, refusal_of first.loaded why.refusal (reached first.loaded first.rest (as_told first.loaded first.rest first.reached)) first.refuses, why.appended);
       }

@@ -1,21 +1,29 @@
-//! Tests of the crates below the tool: each call that can answer want of memory, once with enough of it.
+//! Tests of the crates below the tool: what no clause says, and each call that can answer want of memory, once with enough of it.
 #![tactic(auto)]
 
 #[cfg(test)]
-mod accepted;
+mod answers;
 #[cfg(test)]
-mod classes;
+mod names;
 #[cfg(test)]
 mod nets;
 #[cfg(test)]
-mod processes;
-#[cfg(test)]
-mod runs;
+mod orders;
 #[cfg(test)]
 mod samples;
 #[cfg(test)]
+mod shelves;
+#[cfg(test)]
+mod sinks;
+#[cfg(test)]
+mod sources;
+#[cfg(test)]
 mod stimuli;
 #[cfg(test)]
-mod threads;
+mod streams;
 #[cfg(test)]
-mod words;
+mod tokens;
+#[cfg(test)]
+mod turns;
+#[cfg(test)]
+mod unsteady;

@@ -17,11 +17,7 @@ module _ (old new : Module) (e : Extends old new) where
   pub thread_later : (registers received wires : List Signal) (body : Term) (plan : TurnPlan) (states : ThreadStates) (nets : ThreadNets)
       → ThreadDrawn old registers received wires body plan states nets → ThreadDrawn new registers received wires body plan states nets
   thread_later registers received wires body plan states nets is = record {
-    turn = record {
-      begin = bit_later old new _ e is.turn.begin;
-      goes_on = bit_later old new _ e is.turn.goes_on;
-      opposite = λ now of. is.turn.opposite now (of_later old new now e of);
-    };
+    begin = bit_later old new _ e is.begin;
     begins = λ now of. is.begins now (of_later old new now e of);
     pulse_count = is.pulse_count;
     pulses = λ node inside.

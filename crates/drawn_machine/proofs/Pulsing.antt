@@ -108,10 +108,10 @@ module _ (tree : Module) (inputs : Inputs) (moments : (cycle : ℕ) → IsMoment
   tail_same node live = ap (λ tail. not tail) (sym (is.plan.tails node (inside node live)))
 
   pub pulse_drawn : (node : ℕ) → graph.live node ≡ true
-      → PulseDrawn tree draft.plan.now.nodes.items draft.states.now.nodes.items wires draft.nets.decisions.items (λ now. told now draft.nets.turn.begin) draft.nets.pulses.items node
+      → PulseDrawn tree draft.plan.now.nodes.items draft.states.now.nodes.items wires draft.nets.decisions.items (λ now. told now draft.nets.begin) draft.nets.pulses.items node
   pulse_drawn node live = is.drawn.pulses node (inside node live)
 
-  starts : (cycle : ℕ) → turn_begins graph pulses cycle ≡ told (at tree inputs cycle) draft.nets.turn.begin
+  starts : (cycle : ℕ) → turn_begins graph pulses cycle ≡ told (at tree inputs cycle) draft.nets.begin
   starts cycle =
       sym (is.drawn.begins (at tree inputs cycle) (moments cycle)
       ∙ ap (λ last. not (told (at tree inputs cycle) draft.states.now.started) || told (at tree inputs cycle) (pulse_at draft.nets.pulses.items last).pulse) is.plan.last)
@@ -126,8 +126,8 @@ module _ (tree : Module) (inputs : Inputs) (moments : (cycle : ℕ) → IsMoment
   pulse_holds cycle node live =
       let drawn = pulse_drawn node live in
       drawn.tells (at tree inputs cycle) (moments cycle)
-      ∙ (ap (λ form. pulse_from (pulses.pulse cycle) (told (at tree inputs cycle) (state node)) (shown (at tree inputs cycle) (state node)) (seen.wire node cycle) (told (at tree inputs cycle) draft.nets.turn.begin) (not (plan_at draft.plan.now.nodes.items node).tail) form) (form_same node live)
-      ∙ pulse_is graph seen pulses cycle node (told (at tree inputs cycle) (state node)) (shown (at tree inputs cycle) (state node)) (seen.wire node cycle) (told (at tree inputs cycle) draft.nets.turn.begin) (not (plan_at draft.plan.now.nodes.items node).tail)
+      ∙ (ap (λ form. pulse_from (pulses.pulse cycle) (told (at tree inputs cycle) (state node)) (shown (at tree inputs cycle) (state node)) (seen.wire node cycle) (told (at tree inputs cycle) draft.nets.begin) (not (plan_at draft.plan.now.nodes.items node).tail) form) (form_same node live)
+      ∙ pulse_is graph seen pulses cycle node (told (at tree inputs cycle) (state node)) (shown (at tree inputs cycle) (state node)) (seen.wire node cycle) (told (at tree inputs cycle) draft.nets.begin) (not (plan_at draft.plan.now.nodes.items node).tail)
       refl refl (starts cycle) (tail_same node live) (graph.form node) (bit_of_live cycle node live) (counter_of_live cycle node live))
 
   -- the register of a node that keeps something
@@ -157,12 +157,12 @@ module _ (tree : Module) (inputs : Inputs) (moments : (cycle : ℕ) → IsMoment
   bit_holds : (cycle node : ℕ) → graph.live node ≡ true → pulses.bit (cycle + 1) node ≡ next_bit graph seen pulses cycle node (graph.form node)
   bit_holds cycle node live =
       bit_of_live (cycle + 1) node live
-      ∙ bit_is graph seen pulses cycle node (told (at tree inputs cycle) (state node)) (seen.wire node cycle) (told (at tree inputs cycle) draft.nets.turn.begin) (not (plan_at draft.plan.now.nodes.items node).tail)
+      ∙ bit_is graph seen pulses cycle node (told (at tree inputs cycle) (state node)) (seen.wire node cycle) (told (at tree inputs cycle) draft.nets.begin) (not (plan_at draft.plan.now.nodes.items node).tail)
       refl (starts cycle) (tail_same node live) (graph.form node)
       (told (at tree inputs cycle) (pulse_at draft.nets.pulses.items node).known)
       (bit_in (graph.form node) (told (at tree inputs (cycle + 1)) (state node)))
       (bit_of_live cycle node live)
-      (subst (λ form. Knows (told (at tree inputs cycle) (pulse_at draft.nets.pulses.items node).known) (pulses.pulse cycle) (told (at tree inputs cycle) (state node)) (told (at tree inputs cycle) draft.nets.turn.begin) (not (plan_at draft.plan.now.nodes.items node).tail) form)
+      (subst (λ form. Knows (told (at tree inputs cycle) (pulse_at draft.nets.pulses.items node).known) (pulses.pulse cycle) (told (at tree inputs cycle) (state node)) (told (at tree inputs cycle) draft.nets.begin) (not (plan_at draft.plan.now.nodes.items node).tail) form)
       (form_same node live) ((pulse_drawn node live).knows (at tree inputs cycle) (moments cycle)))
       (next_is_bit cycle node (graph.form node) (keeps node live))
 

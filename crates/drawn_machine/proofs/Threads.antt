@@ -153,7 +153,7 @@ module _ (tree : Module) (inputs : Inputs) (moments : (cycle : ℕ) → IsMoment
       let drawn = pulse_drawn tree inputs moments frame sources received wires number thread draft is drafts here kept node live in
       let form_is : form_in draft.plan.now.nodes.items node ≡ Sync from = is.plan.forms node (inside_graph tree inputs moments frame sources received wires number thread draft is drafts here kept node live) ∙ is_sync in
       let knows : told (at tree inputs cycle) (pulse_at draft.nets.pulses.items node).known ≡ (pulses_told (at tree inputs cycle) draft.nets.pulses.items from || told (at tree inputs cycle) (bit_at draft.states.now.nodes.items node)) =
-      subst (λ form. Knows (told (at tree inputs cycle) (pulse_at draft.nets.pulses.items node).known) (pulses_told (at tree inputs cycle) draft.nets.pulses.items) (told (at tree inputs cycle) (bit_at draft.states.now.nodes.items node)) (told (at tree inputs cycle) draft.nets.turn.begin) (not (plan_at draft.plan.now.nodes.items node).tail) form)
+      subst (λ form. Knows (told (at tree inputs cycle) (pulse_at draft.nets.pulses.items node).known) (pulses_told (at tree inputs cycle) draft.nets.pulses.items) (told (at tree inputs cycle) (bit_at draft.states.now.nodes.items node)) (told (at tree inputs cycle) draft.nets.begin) (not (plan_at draft.plan.now.nodes.items node).tail) form)
       form_is (drawn.knows (at tree inputs cycle) (moments cycle)) in
       let bit_is : machine.pulses.bit cycle node ≡ told (at tree inputs cycle) (bit_at draft.states.now.nodes.items node) = rw (live, is_sync) refl in
       rw bit_is (sym knows)

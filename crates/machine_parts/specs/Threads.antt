@@ -15,7 +15,7 @@ use Rattle.module_nets.specs.Shown.{Moment, IsMomentOf, Shows, shown}
 use Rattle.module_nets.specs.Bits.{IsBit, Tells, told}
 use Rattle.module_nets.specs.Signals.{signal_at, sight_in, widths_in}
 use Rattle.pulse_nets.specs.declared.forms.Pulse.{Pulse}
-use Rattle.pulse_nets.specs.Pulses.{Knows, TurnStands, pulse_at, pulse_from, pulses_told}
+use Rattle.pulse_nets.specs.Pulses.{Knows, pulse_at, pulse_from, pulses_told}
 use Rattle.machine_parts.specs.declared.plan.NodePlan.{NodePlan}
 use Rattle.machine_parts.specs.declared.plan.TurnPlan.{TurnPlan}
 use Rattle.machine_parts.specs.declared.frame.ThreadStates.{ThreadStates}
@@ -62,13 +62,13 @@ pub record ValueDrawn (old : Module) (registers ports sides : List Signal) (valu
 -- the nets of a thread over the signals of the registers of the source, of the data of the ports and of their wires
 pub record ThreadDrawn (old : Module) (registers ports wires : List Signal) (body : Term) (plan : TurnPlan)
     (states : ThreadStates) (nets : ThreadNets) : Type 0 where
-  pub turn : TurnStands old nets.turn
-  pub begins : Tells old nets.turn.begin
+  pub begin : IsBit old nets.begin
+  pub begins : Tells old nets.begin
       (λ now. not (told now states.started) || pulses_told now nets.pulses.items plan.last)
   pub pulse_count : length nets.pulses.items ≡ length plan.nodes.items
   pub pulses : (node : ℕ) → node < length plan.nodes.items
       → PulseDrawn old plan.nodes.items states.nodes.items wires nets.decisions.items
-      (λ now. told now nets.turn.begin) nets.pulses.items node
+      (λ now. told now nets.begin) nets.pulses.items node
   pub value_count : length nets.values.items ≡ size body
   pub decision_count : length nets.decisions.items ≡ size body
   pub side_count : length nets.sides.items ≡ size body

@@ -11,5 +11,5 @@ pub use act_deeds::Deed;
 pub use frame::{Frame, Keep, ThreadStates};
 pub use module_nets::{Signal, SvPort, SvReg};
 pub use plan::{Event, NodePlan, TurnPlan};
-pub use pulse_nets::{Pulse, Shape, Turn};
+pub use pulse_nets::{Pulse, Shape};
 pub use thread::{ThreadDraft, ThreadNets};

@@ -2,14 +2,14 @@
 use crate::frame::ThreadStates;
 use crate::plan::TurnPlan;
 use module_nets::Signal;
-use pulse_nets::{Pulse, Turn};
+use pulse_nets::Pulse;
 
 /// The nets of a thread: the pulses of its nodes, and for each act the value that its expression has when it is read again, how
 /// an `if` decides and which side it shows. A site that uses no value has none, and one that is no `if` has literal bits 0.
 #[derive(Drop)]
 pub struct ThreadNets {
     /// Whether a turn begins.
-    pub turn: Turn,
+    pub begin: Signal,
     /// The pulse of each node.
     pub pulses: Vec<Pulse>,
     /// The value that each act uses, by its site.

@@ -12,7 +12,6 @@ use Rattle.pulse_nets.specs.declared.node.Part.{Part}
 use Rattle.pulse_nets.specs.declared.node.Shape.{Shape}
 use Rattle.pulse_nets.specs.declared.node.Shape.TheVariants as shape
 use Rattle.pulse_nets.specs.declared.forms.Pulse.{Pulse}
-use Rattle.pulse_nets.specs.declared.forms.Turn.{Turn}
 
 abbrev pub form_of : Shape → Form ℕ
 form_of shape.Start = Start
@@ -70,14 +69,9 @@ ArePredecessorsDrawn old pulses (Side from) = IsDrawn old pulses from
 ArePredecessorsDrawn old pulses (Join first second) = IsDrawn old pulses first × IsDrawn old pulses second
 ArePredecessorsDrawn old pulses (Merge first second) = IsDrawn old pulses first × IsDrawn old pulses second
 
--- whether a turn begins, and the complement
-pub record TurnStands (old : Module) (turn : Turn) : Type 0 where
-  pub begin : IsBit old turn.begin
-  pub goes_on : IsBit old turn.goes_on
-  pub opposite : (now : Moment) → IsMomentOf old now → told now turn.goes_on ≡ not (told now turn.begin)
-
-abbrev pub begins : Turn → Moment → Bool
-begins turn now = told now turn.begin
+-- whether a turn begins, as a signal tells it
+abbrev pub begins : Signal → Moment → Bool
+begins begin now = told now begin
 
 abbrev pub pulses_told : Moment → List Pulse → ℕ → Bool
 pulses_told now pulses node = told now (pulse_at pulses node).pulse

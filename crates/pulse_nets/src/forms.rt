@@ -3,7 +3,7 @@ ghost use Rattle.std.specs.Prelude.{◌≡◌, ◌==◌, ◌&&◌, ◌||◌, IfO
 ghost use Rattle.module_nets.specs.Netlist.{Extends, Stands};
 ghost use Rattle.module_nets.specs.Shown.{Moment, IsMomentOf, shown};
 ghost use Rattle.module_nets.specs.Bits.{IsBit, Tells, told};
-ghost use Rattle.pulse_nets.specs.Pulses.{begins, form_of, ArePredecessorsDrawn, IsKnown, IsPulse, PartStands, TurnStands};
+ghost use Rattle.pulse_nets.specs.Pulses.{begins, form_of, ArePredecessorsDrawn, IsKnown, IsPulse, PartStands};
 
 use crate::node::{Part, Shape};
 use anvil_bits::Bits;
@@ -20,33 +20,25 @@ pub struct Pulse {
     pub known: Signal,
 }
 
-/// Whether a turn begins in a cycle, and the complement.
-#[derive(Clone, Copy)]
-pub struct Turn {
-    /// A turn begins.
-    pub begin: Signal,
-    /// None begins.
-    pub goes_on: Signal,
-}
-
-/// The pulse of a node, over those of earlier nodes. It takes at most four nets, those of a `Join`, and one where the join forgets.
+/// The pulse of a node, over those of earlier nodes; `begin` is 1 in the cycles in which a turn begins. It takes at most four nets, those
+/// of a `Join`, and two where the join forgets.
 pub fn draw_pulse(
     netlist: &mut Netlist,
     part: &Part,
     before: &[Pulse],
-    turn: &Turn,
+    begin: &Signal,
 ) -> Result<Pulse, AllocError>
     requires before { ArePredecessorsDrawn netlist.old before.now (form_of part.now.shape) }
     requires part { PartStands netlist.old part.now.state part.now.event (form_of part.now.shape) }
-    requires turn { TurnStands netlist.old turn.now }
+    requires begin { IsBit netlist.old begin.now }
     ensures extends { IfOk result (λ drawn. Extends netlist.old netlist.new) }
     ensures bit { IfOk result (λ drawn. IsBit netlist.new drawn.pulse) }
     ensures known { IfOk result (λ drawn. IsBit netlist.new drawn.known) }
-    ensures tells { IfOk result (IsPulse netlist.new before.now (begins turn.now) part.now) }
-    ensures knows { IfOk result (IsKnown netlist.new before.now (begins turn.now) part.now) }
+    ensures tells { IfOk result (IsPulse netlist.new before.now (begins begin.now) part.now) }
+    ensures knows { IfOk result (IsKnown netlist.new before.now (begins begin.now) part.now) }
 {
     match part.shape {
-        Shape::Start => Ok(plain(&turn.begin)),
+        Shape::Start => Ok(plain(begin)),
         Shape::Same(from) => Ok(plain(&before[from as usize].pulse)),
         Shape::After(_, _) => draw_delay(netlist, &part.state),
         Shape::Sync(from) => draw_sync(
@@ -56,7 +48,7 @@ pub fn draw_pulse(
             &part.event,
         ),
         Shape::Join(first, second) => {
-            let one_came = draw_one_came(netlist, part, turn)?;
+            let one_came = draw_one_came(netlist, part, begin)?;
             draw_join(
                 netlist,
                 &before[first as usize].pulse,
@@ -142,16 +134,17 @@ fn draw_delay(netlist: &mut Netlist, counter: &Signal) -> Result<Pulse, AllocErr
 }
 
 /// That one end of a `Join` came in an earlier cycle and is not forgotten.
-fn draw_one_came(netlist: &mut Netlist, part: &Part, turn: &Turn) -> Result<Signal, AllocError>
+fn draw_one_came(netlist: &mut Netlist, part: &Part, begin: &Signal) -> Result<Signal, AllocError>
     requires part { IsBit netlist.old part.now.state }
-    requires turn { TurnStands netlist.old turn.now }
+    requires begin { IsBit netlist.old begin.now }
     ensures extends { IfOk result (λ drawn. Extends netlist.old netlist.new) }
     ensures bit { IfOk result (λ drawn. IsBit netlist.new drawn) }
     ensures tells { IfOk result (λ drawn. Tells netlist.new drawn
-        (λ now. told now part.now.state && not (part.now.forgets && told now turn.now.begin))) }
+        (λ now. told now part.now.state && not (part.now.forgets && told now begin.now))) }
 {
     if part.forgets {
-        netlist.and(&part.state, &turn.goes_on)
+        let goes_on = netlist.invert(begin)?;
+        netlist.and(&part.state, &goes_on)
     } else {
         Ok(part.state)
     }

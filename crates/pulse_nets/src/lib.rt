@@ -7,7 +7,7 @@ mod node;
 mod states;
 mod writes;
 
-pub use forms::{Pulse, Turn, draw_pulse};
+pub use forms::{Pulse, draw_pulse};
 pub use module_nets::{Netlist, Signal};
 pub use node::{Part, Shape};
 pub use states::draw_next;

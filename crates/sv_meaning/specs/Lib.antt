@@ -4,4 +4,3 @@ pub mod Stands
 pub mod Shown
 pub mod Cycle
 pub mod Inside
-pub mod Samples

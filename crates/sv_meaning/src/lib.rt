@@ -4,10 +4,6 @@
 mod cycle;
 mod machine;
 mod operator;
-#[cfg(test)]
-mod samples;
-#[cfg(test)]
-mod tests;
 
 pub use anvil_bits::Bits;
 pub use core_term::{InCell, OutCell, OutRow, Row};

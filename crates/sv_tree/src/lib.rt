@@ -7,8 +7,6 @@
 
 pub mod laws;
 mod module;
-#[cfg(test)]
-mod tests;
 mod tree;
 
 pub use anvil_bits::Bits;

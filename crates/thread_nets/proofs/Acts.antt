@@ -166,9 +166,9 @@ tails_there old nodes other states others wires tails one two drawn =
 pub begun_step : (old new : Module) (walk : Walk) (before after : Drawn) (nodes : List NodePlan) (states decisions : List Signal) → nodes ≡ nodes_in walk → states ≡ states_in walk → decisions ≡ before.decisions.items → Extends old new → SoFar old walk before
     → after.values.items ≡ before.values.items → after.decisions.items ≡ before.decisions.items → after.sides.items ≡ before.sides.items
     → length before.pulses.items ≤ length after.pulses.items → ((node : ℕ) → node < length before.pulses.items → pulse_at after.pulses.items node ≡ pulse_at before.pulses.items node)
-    → PulsesSoFar new nodes states (wires_in walk) decisions (begins walk.turn) walk.tails.now after.pulses.items → Step old new walk before after
+    → PulsesSoFar new nodes states (wires_in walk) decisions (begins walk.begin) walk.tails.now after.pulses.items → Step old new walk before after
 begun_step old new walk before after nodes states decisions nodes_are states_are decisions_are e so_far values decided sides longer kept pulses =
-    let P : List NodePlan → List Signal → List Signal → Type 0 = λ nodes states decisions. PulsesSoFar new nodes states (wires_in walk) decisions (begins walk.turn) walk.tails.now after.pulses.items in
+    let P : List NodePlan → List Signal → List Signal → Type 0 = λ nodes states decisions. PulsesSoFar new nodes states (wires_in walk) decisions (begins walk.begin) walk.tails.now after.pulses.items in
     let count : length after.values.items ≡ length before.values.items = ap (λ list. length list) values in
     record {
       extends = e;
@@ -201,7 +201,7 @@ begun_step old new walk before after nodes states decisions nodes_are states_are
 pub same_step : (old new : Module) (walk : Walk) (drawn : Drawn) → Extends old new → SoFar old walk drawn → Step old new walk drawn drawn
 same_step old new walk drawn e so_far =
     begun_step old new walk drawn drawn (nodes_in walk) (states_in walk) drawn.decisions.items refl refl refl e so_far refl refl refl (omega arith) (λ node inside. refl)
-    (so_far_later old new (nodes_in walk) (states_in walk) (wires_in walk) drawn.decisions.items (begins walk.turn) walk.tails.now drawn.pulses.items e so_far.pulses)
+    (so_far_later old new (nodes_in walk) (states_in walk) (wires_in walk) drawn.decisions.items (begins walk.begin) walk.tails.now drawn.pulses.items e so_far.pulses)
 
 -- One site more.
 
@@ -241,10 +241,10 @@ module _ (old mid new : Module) (walk : Walk) (before begun after : Drawn) (vari
 
   own_so_far : SoFar new walk after
   own_so_far = record {
-    pulses = subst (λ list. PulsesSoFar new (nodes_in walk) (states_in walk) (wires_in walk) after.decisions.items (begins walk.turn) walk.tails.now list) (sym pulses_are)
-        (subst (λ list. PulsesSoFar new (nodes_in walk) (states_in walk) (wires_in walk) list (begins walk.turn) walk.tails.now begun.pulses.items) (sym decisions_are)
-        (so_far_decided new (nodes_in walk) (states_in walk) (wires_in walk) begun.decisions.items (begins walk.turn) walk.tails.now begun.pulses.items (decision ∷ [])
-        (so_far_later mid new (nodes_in walk) (states_in walk) (wires_in walk) begun.decisions.items (begins walk.turn) walk.tails.now begun.pulses.items later step.so_far.pulses)));
+    pulses = subst (λ list. PulsesSoFar new (nodes_in walk) (states_in walk) (wires_in walk) after.decisions.items (begins walk.begin) walk.tails.now list) (sym pulses_are)
+        (subst (λ list. PulsesSoFar new (nodes_in walk) (states_in walk) (wires_in walk) list (begins walk.begin) walk.tails.now begun.pulses.items) (sym decisions_are)
+        (so_far_decided new (nodes_in walk) (states_in walk) (wires_in walk) begun.decisions.items (begins walk.begin) walk.tails.now begun.pulses.items (decision ∷ [])
+        (so_far_later mid new (nodes_in walk) (states_in walk) (wires_in walk) begun.decisions.items (begins walk.begin) walk.tails.now begun.pulses.items later step.so_far.pulses)));
     decision_count =
         let l = length_with begun.decisions.items after.decisions.items decision decisions_are in let m = values_longer in let c = step.so_far.decision_count in omega (arith, l, m, c);
     side_count = let l = length_with begun.sides.items after.sides.items side sides_are in let m = values_longer in let c = step.so_far.side_count in omega (arith, l, m, c);

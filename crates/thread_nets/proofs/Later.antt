@@ -18,7 +18,7 @@ use Rattle.pulse_nets.specs.Pulses.{pulse_at, pulses_told}
 use Rattle.machine_parts.specs.Parts.{bit_at, node_at}
 use Rattle.machine_parts.specs.Threads.{SideDrawn, ValueDrawn}
 use Rattle.turn_nets.proofs.BitLists.{bits_later}
-use Rattle.turn_nets.proofs.OneNode.{states_later, turn_later}
+use Rattle.turn_nets.proofs.OneNode.{states_later}
 use Rattle.turn_nets.proofs.TailNodes.{tails_later}
 use Rattle.thread_nets.specs.declared.setting.Walk.{Walk}
 use Rattle.thread_nets.specs.declared.setting.Drawn.{Drawn}
@@ -32,7 +32,7 @@ ground_later old new walk e ground = record {
   states = states_later old new (nodes_in walk) (states_in walk) e ground.states;
   kept = bits_later old new (kept_sides walk) e ground.kept;
   wires = bits_later old new (wires_in walk) e ground.wires;
-  turn = turn_later old new walk.turn e ground.turn;
+  begin = bit_later old new walk.begin e ground.begin;
   tails = tails_later old new (nodes_in walk) (states_in walk) (wires_in walk) walk.tails.now e ground.tails;
   tail_count = ground.tail_count;
 }

@@ -11,11 +11,12 @@ use Rattle.sv_tree.specs.Module.{Module}
 use Rattle.module_nets.specs.declared.signal.Signal.{Signal}
 use Rattle.module_nets.specs.Netlist.{Extends}
 use Rattle.module_nets.specs.Bits.{IsBit, Tells, told}
+use Rattle.module_nets.proofs.BitsTold.{bit_later}
 use Rattle.module_nets.specs.Signals.{PlacesStand}
 use Rattle.module_nets.proofs.Growing.{of_later, extends_on}
 use Rattle.module_nets.proofs.Expressions.{places_later}
 use Rattle.pulse_nets.specs.declared.forms.Pulse.{Pulse}
-use Rattle.pulse_nets.specs.Pulses.{TurnStands, begins, pulse_at}
+use Rattle.pulse_nets.specs.Pulses.{begins, pulse_at}
 use Rattle.event_points.specs.Nodes.{once}
 use Rattle.event_points.proofs.Once.{stand}
 use Rattle.event_graph.specs.Forms.{form_at, apart_at}
@@ -31,7 +32,7 @@ use Rattle.machine_parts.specs.Plans.{IsTurnPlan, graph_of, node_of}
 use Rattle.machine_parts.specs.Nodes.{AreBits, AreNodes, AreStatesDrawn, PulsesSoFar, TailsDrawn, WaitBelow}
 use Rattle.machine_parts.specs.Threads.{ThreadDrawn}
 use Rattle.turn_nets.proofs.BitLists.{bits_later, no_bits}
-use Rattle.turn_nets.proofs.OneNode.{states_later, turn_later}
+use Rattle.turn_nets.proofs.OneNode.{states_later}
 use Rattle.turn_nets.proofs.TailNodes.{tails_later, tail_is_bit}
 use Rattle.turn_nets.proofs.FirstNodes.{no_pulses_so_far}
 use Rattle.thread_nets.specs.declared.setting.Walk.{Walk}
@@ -95,8 +96,8 @@ tails_of old walk nodes states tails nodes_are states_are drawn =
 
 pub ground_from : (old mid new : Module) (walk : Walk) (nodes : List NodePlan) (states : List Signal) (tails : List Pulse) → nodes ≡ nodes_in walk → states ≡ states_in walk → Extends old mid → Extends mid new → walk.tails.now ≡ tails
     → IsPlaced (plan_in walk) (kept_sides walk) → PlacesStand old (kept_registers walk) (kept_ports walk) [] → AreStatesDrawn old (nodes_in walk) (states_in walk) → AreBits old (kept_sides walk) → AreBits old (wires_in walk)
-    → TurnStands new walk.turn → TailsDrawn mid nodes states (wires_in walk) tails → length tails ≡ length nodes → Ground new walk
-ground_from old mid new walk nodes states tails nodes_are states_are first second tails_are placed places drawn kept wires turn tails_drawn count =
+    → IsBit new walk.begin → TailsDrawn mid nodes states (wires_in walk) tails → length tails ≡ length nodes → Ground new walk
+ground_from old mid new walk nodes states tails nodes_are states_are first second tails_are placed places drawn kept wires begin tails_drawn count =
     let e = extends_on old mid new first second in
     record {
       placed = placed;
@@ -104,7 +105,7 @@ ground_from old mid new walk nodes states tails nodes_are states_are first secon
       states = states_later old new (nodes_in walk) (states_in walk) e drawn;
       kept = bits_later old new (kept_sides walk) e kept;
       wires = bits_later old new (wires_in walk) e wires;
-      turn = turn;
+      begin = begin;
       tails = subst (λ list. TailsDrawn new (nodes_in walk) (states_in walk) (wires_in walk) list) (sym tails_are)
           (tails_later mid new (nodes_in walk) (states_in walk) (wires_in walk) tails second (tails_of mid walk nodes states tails nodes_are states_are tails_drawn));
       tail_count = ap (λ list. length list) tails_are ∙ (count ∙ ap (λ list. length list) nodes_are);
@@ -128,9 +129,9 @@ nothing_so_far old walk drawn pulses values decisions sides =
     let none : length drawn.values.items ≡ 0 = ap (λ list. length list) values in
     record {
       pulses = subst
-          (λ list. PulsesSoFar old (nodes_in walk) (states_in walk) (wires_in walk) drawn.decisions.items (begins walk.turn) walk.tails.now list)
+          (λ list. PulsesSoFar old (nodes_in walk) (states_in walk) (wires_in walk) drawn.decisions.items (begins walk.begin) walk.tails.now list)
           (sym pulses)
-          (no_pulses_so_far old (nodes_in walk) (states_in walk) (wires_in walk) drawn.decisions.items (begins walk.turn) walk.tails.now);
+          (no_pulses_so_far old (nodes_in walk) (states_in walk) (wires_in walk) drawn.decisions.items (begins walk.begin) walk.tails.now);
       decision_count = ap (λ list. length list) decisions ∙ sym none;
       side_count = ap (λ list. length list) sides ∙ sym none;
       bits = subst (λ list. AreBits old list) (sym decisions) (no_bits old);
@@ -180,17 +181,17 @@ module _ (old mid : Module) (walk : Walk) (before begun : Drawn) (body : Term) (
 
 -- The nets of the thread.
 
-pub thread_drawn : (old new : Module) (walk : Walk) (after : Drawn) (body : Term) (end : Signal) (nets : ThreadNets) → BodyDrawn old new walk after body → TurnStands old walk.turn
-    → Tells old walk.turn.begin (λ now. not (told now walk.setting.states.now.started) || told now end) → end ≡ (pulse_at walk.tails.now (plan_in walk).last).pulse
+pub thread_drawn : (old new : Module) (walk : Walk) (after : Drawn) (body : Term) (end : Signal) (nets : ThreadNets) → BodyDrawn old new walk after body → IsBit old walk.begin
+    → Tells old walk.begin (λ now. not (told now walk.setting.states.now.started) || told now end) → end ≡ (pulse_at walk.tails.now (plan_in walk).last).pulse
     → ((plan_in walk).last < length (nodes_in walk)) × ((plan_at (nodes_in walk) (plan_in walk).last).tail ≡ true)
-    → nets ≡ record { turn = walk.turn; pulses = after.pulses; values = after.values; decisions = after.decisions; sides = after.sides }
+    → nets ≡ record { begin = walk.begin; pulses = after.pulses; values = after.values; decisions = after.decisions; sides = after.sides }
     → ThreadDrawn new (kept_registers walk) (kept_ports walk) (wires_in walk) body (plan_in walk) walk.setting.states.now nets
-thread_drawn old new walk after body end nets drawn turn tells end_is last is =
-    let made : ThreadNets = record { turn = walk.turn; pulses = after.pulses; values = after.values; decisions = after.decisions; sides = after.sides } in
+thread_drawn old new walk after body end nets drawn begin tells end_is last is =
+    let made : ThreadNets = record { begin = walk.begin; pulses = after.pulses; values = after.values; decisions = after.decisions; sides = after.sides } in
     let inside : (place : ℕ) → place < size body → place < length after.values.items = λ place within. let c = drawn.count in omega (arith, c, within) in
     let node_inside : (node : ℕ) → node < length (nodes_in walk) → node < length after.pulses.items = λ node within. let c = drawn.pulse_count in omega (arith, c, within) in
     subst (λ nets. ThreadDrawn new (kept_registers walk) (kept_ports walk) (wires_in walk) body (plan_in walk) walk.setting.states.now nets) (sym is) record {
-      turn = turn_later old new walk.turn drawn.extends turn;
+      begin = bit_later old new walk.begin drawn.extends begin;
       begins = λ now of.
           tells now (of_later old new now drawn.extends of)
           ∙ ap (λ (signal : Signal). not (told now walk.setting.states.now.started) || told now signal) (end_is ∙ ap (λ (pulse : Pulse). pulse.pulse) (sym (drawn.so_far.pulses.same (plan_in walk).last (node_inside (plan_in walk).last last.0) last.1)));

@@ -19,8 +19,9 @@ use Rattle.module_nets.specs.declared.scope.Variable.{Variable}
 use Rattle.module_nets.specs.Netlist as netlist
 use Rattle.module_nets.specs.Netlist.{Extends}
 use Rattle.module_nets.specs.Shown.{Moment, IsMomentOf, Shows}
+use Rattle.module_nets.specs.Bits.{IsBit}
 use Rattle.module_nets.specs.Signals.{signal_at, sight_in, shown_in, widths_in, PlacesStand, VariablesStand}
-use Rattle.pulse_nets.specs.Pulses.{TurnStands, begins, pulse_at}
+use Rattle.pulse_nets.specs.Pulses.{begins, pulse_at}
 use Rattle.act_deeds.specs.declared.deed.Deed.TheVariants.{Decides}
 use Rattle.act_deeds.specs.Deeds.{deed_at, deed_in}
 use Rattle.machine_parts.specs.declared.plan.Event.TheVariants as event
@@ -103,14 +104,14 @@ pub record Ground (old : Module) (walk : Walk) : Type 0 where
   pub states : AreStatesDrawn old (nodes_in walk) (states_in walk)
   pub kept : AreBits old (kept_sides walk)
   pub wires : AreBits old (wires_in walk)
-  pub turn : TurnStands old walk.turn
+  pub begin : IsBit old walk.begin
   pub tails : TailsDrawn old (nodes_in walk) (states_in walk) (wires_in walk) walk.tails.now
   pub tail_count : length walk.tails.now ≡ length (nodes_in walk)
 
 -- what is drawn so far
 pub record SoFar (old : Module) (walk : Walk) (drawn : Drawn) : Type 0 where
-  pub pulses : PulsesSoFar old (nodes_in walk) (states_in walk) (wires_in walk) drawn.decisions.items (begins walk.turn)
-      walk.tails.now drawn.pulses.items
+  pub pulses : PulsesSoFar old (nodes_in walk) (states_in walk) (wires_in walk) drawn.decisions.items
+      (begins walk.begin) walk.tails.now drawn.pulses.items
   pub decision_count : length drawn.decisions.items ≡ length drawn.values.items
   pub side_count : length drawn.sides.items ≡ length drawn.values.items
   pub bits : AreBits old drawn.decisions.items

@@ -97,7 +97,7 @@ pub fn draw_pulses(
     draw_below(
         netlist,
         &setting,
-        &walk.turn,
+        &walk.begin,
         walk.tails,
         &drawn.decisions,
         bound,

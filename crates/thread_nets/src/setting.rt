@@ -12,7 +12,7 @@ ghost use Rattle.thread_nets.specs.Walk.{kept_registers, kept_ports, sight_at, w
 use core_term::CoreExpr;
 use machine_parts::{ThreadStates, TurnPlan};
 use module_nets::{Netlist, Scope, Signal, Variable, draw_expression};
-use pulse_nets::{Pulse, Turn};
+use pulse_nets::Pulse;
 use std::alloc::{AllocError, Global};
 
 /// What a thread is drawn from.
@@ -36,7 +36,7 @@ pub struct Walk<'a> {
     /// What the thread is drawn from.
     pub setting: ThreadSetting<'a>,
     /// Whether a turn begins.
-    pub turn: Turn,
+    pub begin: Signal,
     /// The pulses of the nodes of the tail.
     pub tails: &'a [Pulse],
 }

@@ -21,7 +21,7 @@ use crate::walk::draw_term;
 use core_term::{CoreTerm, CoreThread};
 use machine_parts::ThreadNets;
 use module_nets::{Netlist, Signal};
-use pulse_nets::{Pulse, Turn};
+use pulse_nets::Pulse;
 use std::alloc::{AllocError, Global};
 use turn_nets::{TurnSetting, draw_begin, draw_tails};
 
@@ -55,14 +55,14 @@ pub fn draw_thread(
     let body = thread.body();
     let tails = draw_tails(alloc, netlist, &turn_setting)?;
     let end = pulse_of(&tails, setting.plan.last);
-    let turn = draw_begin(netlist, &setting.states.started, &end)?;
+    let begin = draw_begin(netlist, &setting.states.started, &end)?;
     let walk = Walk {
         setting: *setting,
-        turn,
+        begin,
         tails: &tails,
     };
     let drawn = draw_body(alloc, netlist, &walk, body)?;
-    Ok(nets_of(&walk.turn, drawn))
+    Ok(nets_of(&walk.begin, drawn))
 }
 
 /// The pulse of a node.
@@ -96,9 +96,9 @@ fn draw_body(
 }
 
 /// What is drawn, as the nets of a thread.
-fn nets_of(turn: &Turn, drawn: Drawn) -> ThreadNets
+fn nets_of(begin: &Signal, drawn: Drawn) -> ThreadNets
     ensures { result ≡ record {
-      turn = turn.now;
+      begin = begin.now;
       pulses = drawn.pulses;
       values = drawn.values;
       decisions = drawn.decisions;
@@ -112,7 +112,7 @@ fn nets_of(turn: &Turn, drawn: Drawn) -> ThreadNets
         sides,
     } = drawn;
     ThreadNets {
-        turn: *turn,
+        begin: *begin,
         pulses,
         values,
         decisions,

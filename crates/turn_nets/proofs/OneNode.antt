@@ -12,8 +12,7 @@ use Rattle.module_nets.proofs.Growing.{of_later, stands_later}
 use Rattle.module_nets.proofs.BitsTold.{bit_later}
 use Rattle.pulse_nets.specs.declared.node.Part.{Part}
 use Rattle.pulse_nets.specs.declared.forms.Pulse.{Pulse}
-use Rattle.pulse_nets.specs.declared.forms.Turn.{Turn}
-use Rattle.pulse_nets.specs.Pulses.{pulse_from, Knows, pulses_told, pulse_at, IsPulse, IsKnown, IsDrawn, ArePredecessorsDrawn, PartStands, TurnStands, form_of}
+use Rattle.pulse_nets.specs.Pulses.{pulse_from, Knows, pulses_told, pulse_at, IsPulse, IsKnown, IsDrawn, ArePredecessorsDrawn, PartStands, form_of}
 use Rattle.machine_parts.specs.declared.plan.NodePlan.{NodePlan}
 use Rattle.machine_parts.specs.Parts.{bit_at, plan_at, form_in, event_told}
 use Rattle.machine_parts.specs.Threads.{PulseDrawn}
@@ -192,13 +191,6 @@ state_later old new state (Merge first second) e stood = tt
 
 pub states_later : (old new : Module) (nodes : List NodePlan) (states : List Signal) → Extends old new → AreStatesDrawn old nodes states → AreStatesDrawn new nodes states
 states_later old new nodes states e are node within = state_later old new (bit_at states node) (form_in nodes node) e (are node within)
-
-pub turn_later : (old new : Module) (turn : Turn) → Extends old new → TurnStands old turn → TurnStands new turn
-turn_later old new turn e stood = record {
-  begin = bit_later old new turn.begin e stood.begin;
-  goes_on = bit_later old new turn.goes_on e stood.goes_on;
-  opposite = λ now of. stood.opposite now (of_later old new now e of);
-}
 
 -- the pulse of a node of a list is one by its plan, and the other way round
 

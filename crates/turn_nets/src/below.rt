@@ -3,21 +3,21 @@ ghost use Rattle.std.specs.Prelude.{◌≡◌, ℕ, ◌<◌, ◌≤◌, IfOk, le
 ghost use Rattle.module_nets.specs.Netlist.{Extends};
 ghost use Rattle.module_nets.specs.Shown.{Moment, IsMomentOf};
 ghost use Rattle.module_nets.specs.Bits.{IsBit, Tells, told};
-ghost use Rattle.pulse_nets.specs.Pulses.{TurnStands, begins, pulse_at};
+ghost use Rattle.pulse_nets.specs.Pulses.{begins, pulse_at};
 ghost use Rattle.machine_parts.specs.Parts.{bit_at, plan_at, event_told};
 ghost use Rattle.machine_parts.specs.Nodes.{AreBits, AreNodes, AreStatesDrawn, PulsesSoFar, TailsDrawn, WaitBelow};
 ghost use Rattle.turn_nets.specs.Planned.{NodeDrawn};
 
 use crate::setting::{TurnSetting, bit_of, part_of, zero};
 use machine_parts::Event;
-use pulse_nets::{Netlist, Pulse, Signal, Turn, draw_pulse};
+use pulse_nets::{Netlist, Pulse, Signal, draw_pulse};
 use std::alloc::AllocError;
 
 /// Draws the pulses of the nodes below a number that are not drawn yet, in order. Those of the tail are the ones given.
 pub fn draw_below(
     netlist: &mut Netlist,
     setting: &TurnSetting<'_>,
-    turn: &Turn,
+    begin: &Signal,
     tails: &[Pulse],
     decisions: &[Signal],
     bound: u32,
@@ -27,24 +27,24 @@ pub fn draw_below(
     requires states { AreStatesDrawn netlist.old setting.now.nodes.now setting.now.states.now }
     requires wires { AreBits netlist.old setting.now.wires.now }
     requires decisions { AreBits netlist.old decisions.now }
-    requires turn { TurnStands netlist.old turn.now }
+    requires begin { IsBit netlist.old begin.now }
     requires tails { TailsDrawn netlist.old setting.now.nodes.now setting.now.states.now setting.now.wires.now
         tails.now }
     requires tail_count { length tails.now ≡ length setting.now.nodes.now }
     requires bound { bound ≤ length setting.now.nodes.now }
     requires known { WaitBelow setting.now.nodes.now bound (length decisions.now) }
     requires so_far { PulsesSoFar netlist.old setting.now.nodes.now setting.now.states.now setting.now.wires.now
-        decisions.now (begins turn.now) tails.now pulses.old.items }
+        decisions.now (begins begin.now) tails.now pulses.old.items }
     ensures extends { IfOk result (λ done. Extends netlist.old netlist.new) }
     ensures reaches { IfOk result (λ done. bound ≤ length pulses.new.items) }
     ensures longer { IfOk result (λ done. length pulses.old.items ≤ length pulses.new.items) }
     ensures kept { IfOk result (λ done. (node : ℕ) → node < length pulses.old.items →
         pulse_at pulses.new.items node ≡ pulse_at pulses.old.items node) }
     ensures so_far { IfOk result (λ done. PulsesSoFar netlist.new setting.now.nodes.now setting.now.states.now
-        setting.now.wires.now decisions.now (begins turn.now) tails.now pulses.new.items) }
+        setting.now.wires.now decisions.now (begins begin.now) tails.now pulses.new.items) }
 {
     for _node in pulses.len()..bound as usize {
-        let pulse = draw_node(netlist, setting, turn, tails, decisions, pulses)?;
+        let pulse = draw_node(netlist, setting, begin, tails, decisions, pulses)?;
         pulses.push(pulse)?;
     }
     Ok(())
@@ -54,7 +54,7 @@ pub fn draw_below(
 fn draw_node(
     netlist: &mut Netlist,
     setting: &TurnSetting<'_>,
-    turn: &Turn,
+    begin: &Signal,
     tails: &[Pulse],
     decisions: &[Signal],
     before: &[Pulse],
@@ -63,19 +63,19 @@ fn draw_node(
     requires states { AreStatesDrawn netlist.old setting.now.nodes.now setting.now.states.now }
     requires wires { AreBits netlist.old setting.now.wires.now }
     requires decisions { AreBits netlist.old decisions.now }
-    requires turn { TurnStands netlist.old turn.now }
+    requires begin { IsBit netlist.old begin.now }
     requires tails { TailsDrawn netlist.old setting.now.nodes.now setting.now.states.now setting.now.wires.now
         tails.now }
     requires tail_count { length tails.now ≡ length setting.now.nodes.now }
     requires inside { length before.now < length setting.now.nodes.now }
     requires so_far { PulsesSoFar netlist.old setting.now.nodes.now setting.now.states.now setting.now.wires.now
-        decisions.now (begins turn.now) tails.now before.now }
+        decisions.now (begins begin.now) tails.now before.now }
     ensures extends { IfOk result (λ drawn. Extends netlist.old netlist.new) }
     ensures drawn { IfOk result (λ drawn. NodeDrawn netlist.new (plan_at setting.now.nodes.now (length before.now))
         (bit_at setting.now.states.now (length before.now))
         (λ now. event_told now setting.now.wires.now decisions.now
         (plan_at setting.now.nodes.now (length before.now)).event)
-        (begins turn.now) before.now drawn) }
+        (begins begin.now) before.now drawn) }
     ensures same { (plan_at setting.now.nodes.now (length before.now)).tail ≡ true →
         IfOk result (λ drawn. drawn ≡ pulse_at tails.now (length before.now)) }
 {
@@ -86,7 +86,7 @@ fn draw_node(
     }
     let event = draw_event(netlist, setting.wires, decisions, &plan.event)?;
     let part = part_of(&plan, &bit_of(setting.states, node), &event);
-    let drawn = draw_pulse(netlist, &part, before, turn)?;
+    let drawn = draw_pulse(netlist, &part, before, begin)?;
     Ok(drawn)
 }
 

@@ -10,6 +10,6 @@ mod tails;
 pub use begin::draw_begin;
 pub use below::draw_below;
 pub use machine_parts::{Event, NodePlan};
-pub use pulse_nets::{Netlist, Pulse, Signal, Turn};
+pub use pulse_nets::{Netlist, Pulse, Signal};
 pub use setting::{TurnSetting, bit_of, zero};
 pub use tails::draw_tails;

@@ -1,15 +1,13 @@
 //! The pulses of the nodes of the tail, which are drawn from registers alone.
 ghost use Rattle.std.specs.Prelude.{◌≡◌, ℕ, ◌<◌, IfOk, length, true};
-ghost use Rattle.sv_tree.specs.Module.{Module};
 ghost use Rattle.module_nets.specs.Netlist.{Extends};
 ghost use Rattle.module_nets.specs.Shown.{Moment};
-ghost use Rattle.pulse_nets.specs.Pulses.{TurnStands, no_pulse};
+ghost use Rattle.pulse_nets.specs.Pulses.{no_pulse};
 ghost use Rattle.machine_parts.specs.Nodes.{AreNodes, AreStatesDrawn, TailsDrawn};
 ghost use Rattle.turn_nets.specs.Planned.{TailDrawn, TailsSoFar};
 
 use crate::setting::{TurnSetting, bit_of, part_of, zero};
-use anvil_bits::Bits;
-use pulse_nets::{Netlist, Pulse, Signal, Turn, draw_pulse};
+use pulse_nets::{Netlist, Pulse, Signal, draw_pulse};
 use std::alloc::{AllocError, Global};
 
 /// The pulses of the nodes of the tail, by their nodes; in the places of other nodes stand pulses that are not drawn.
@@ -52,8 +50,9 @@ fn draw_tail(
     if !plan.tail {
         return Ok(none());
     }
-    let part = part_of(&plan, &bit_of(setting.states, node), &zero());
-    let tail = draw_pulse(netlist, &part, before, &never())?;
+    let nothing = zero();
+    let part = part_of(&plan, &bit_of(setting.states, node), &nothing);
+    let tail = draw_pulse(netlist, &part, before, &nothing)?;
     Ok(tail)
 }
 
@@ -64,15 +63,5 @@ fn none() -> Pulse
     Pulse {
         pulse: Signal::none(),
         known: Signal::none(),
-    }
-}
-
-/// No turn begins.
-fn never() -> Turn
-    ensures { (old : Module) → TurnStands old result }
-{
-    Turn {
-        begin: zero(),
-        goes_on: Signal::literal(Bits::new(1, 1)),
     }
 }

@@ -21,19 +21,19 @@ draw_begin-requires-clause-end c =
 pub draw_body-requires-clause-ground : goal.draw_body-requires-clause-ground
 draw_body-requires-clause-ground c =
     let tails = c.in_ok-tails.ensures in
-    let turn = c.in_ok-turn.ensures in
-    ground_from _ _ _ _ _ _ _ c.deref.ensures.value c.deref-2.ensures.value tails.extends turn.extends c.deref-4.ensures.value
+    let begin = c.in_ok-begin.ensures in
+    ground_from _ _ _ _ _ _ _ c.deref.ensures.value c.deref-2.ensures.value tails.extends begin.extends c.deref-4.ensures.value
     (placed_from _ c.args.setting.now.plan.now c.requires.plan _ c.requires.nodes c.requires.no_side)
-    c.requires.places c.requires.states c.requires.kept c.requires.wires turn.turn tails.drawn tails.count
+    c.requires.places c.requires.states c.requires.kept c.requires.wires begin.bit tails.drawn tails.count
 
 pub returns-clause-drawn : goal.returns-clause-drawn
 returns-clause-drawn c =
-    let turn = c.in_ok-turn.ensures in
+    let begin = c.in_ok-begin.ensures in
     let last = last_there _ _ c.requires.plan (turn_graph_of (source_widths c.args.setting.now) _ c.body-body.ensures.body) in
-    let walk : Walk = record { setting = c.args.setting.now; turn = c.in_ok-turn.turn; tails = c.deref-4.result } in
+    let walk : Walk = record { setting = c.args.setting.now; begin = c.in_ok-begin.begin; tails = c.deref-4.result } in
     let drawn : BodyDrawn c.draw_begin.new.netlist c.draw_body.new.netlist walk c.in_ok-drawn.drawn (body_of c.args.setting.now c.args.thread.now) =
     subst (λ body. BodyDrawn c.draw_begin.new.netlist c.draw_body.new.netlist walk c.in_ok-drawn.drawn (body_of c.args.setting.now body)) c.body-body.ensures.same c.in_ok-drawn.ensures in
-    thread_drawn _ _ walk _ _ c.pulse_of-end.result _ drawn turn.turn turn.tells
+    thread_drawn _ _ walk _ _ c.pulse_of-end.result _ drawn begin.bit begin.tells
     (c.pulse_of-end.ensures ∙ ap (λ list. (pulse_at list c.args.setting.now.plan.now.last).pulse) (c.deref-3.ensures.value ∙ sym c.deref-4.ensures.value))
     last
     c.nets_of.ensures

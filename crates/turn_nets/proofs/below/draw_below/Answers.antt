@@ -1,11 +1,12 @@
 use Rattle.std.proofs.Common.{◌≡◌, ◌+◌, ◌<◌, true, length, sym, ◌∙◌, subst, arith}
 use Rattle.module_nets.proofs.Growing.{extends_on}
+use Rattle.module_nets.proofs.BitsTold.{bit_later}
 use Rattle.pulse_nets.specs.Pulses.{begins, pulse_at}
 use Rattle.machine_parts.specs.Parts.{bit_at, plan_at, event_told}
 use Rattle.machine_parts.specs.Nodes.{PulsesSoFar, WaitBelow}
 use Rattle.turn_nets.specs.Planned.{NodeDrawn}
 use Rattle.turn_nets.proofs.BitLists.{bits_later}
-use Rattle.turn_nets.proofs.OneNode.{states_later, turn_later}
+use Rattle.turn_nets.proofs.OneNode.{states_later}
 use Rattle.turn_nets.proofs.TailNodes.{tails_later, kept_pushed}
 use Rattle.turn_nets.proofs.FirstNodes.{so_far_pushed}
 use Rattle.turn_nets.proofs.below.draw_below.Goals as goal
@@ -20,8 +21,8 @@ draw_node-requires-clause-wires c = bits_later c.args.netlist.now c.loop-node.ne
 pub draw_node-requires-clause-decisions : goal.draw_node-requires-clause-decisions
 draw_node-requires-clause-decisions c = bits_later c.args.netlist.now c.loop-node.netlist c.args.decisions.now c.loop-node.invariant.extends c.requires.decisions
 
-pub draw_node-requires-clause-turn : goal.draw_node-requires-clause-turn
-draw_node-requires-clause-turn c = turn_later c.args.netlist.now c.loop-node.netlist c.args.turn.now c.loop-node.invariant.extends c.requires.turn
+pub draw_node-requires-clause-begin : goal.draw_node-requires-clause-begin
+draw_node-requires-clause-begin c = bit_later c.args.netlist.now c.loop-node.netlist c.args.begin.now c.loop-node.invariant.extends c.requires.begin
 
 pub draw_node-requires-clause-tails : goal.draw_node-requires-clause-tails
 draw_node-requires-clause-tails c =
@@ -35,7 +36,7 @@ draw_node-requires-clause-inside c =
 pub draw_node-requires-clause-so_far : goal.draw_node-requires-clause-so_far
 draw_node-requires-clause-so_far c =
     subst
-    (λ list. PulsesSoFar c.loop-node.netlist c.args.setting.now.nodes.now c.args.setting.now.states.now c.args.setting.now.wires.now c.args.decisions.now (begins c.args.turn.now) c.args.tails.now list)
+    (λ list. PulsesSoFar c.loop-node.netlist c.args.setting.now.nodes.now c.args.setting.now.states.now c.args.setting.now.wires.now c.args.decisions.now (begins c.args.begin.now) c.args.tails.now list)
     (sym c.deref.ensures.value) c.loop-node.invariant.so_far
 
 pub loop-node-preserved : goal.loop-node-preserved
@@ -45,7 +46,7 @@ loop-node-preserved c =
     let wires = c.args.setting.now.wires.now in
     let decisions = c.args.decisions.now in
     let tails = c.args.tails.now in
-    let begin = begins c.args.turn.now in
+    let begin = begins c.args.begin.now in
     let pulses = c.loop-node.pulses.items in
     let pulse = c.in_ok-pulse.pulse in
     let new = c.draw_node.new.netlist in

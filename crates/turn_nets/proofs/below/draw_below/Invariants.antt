@@ -10,5 +10,5 @@ invariant-loop-node l = record {
   count : length l.pulses.items ≡ l._node;
   longer : length l.fn.pulses.items ≤ length l.pulses.items;
   kept : (node : ℕ) → node < length l.fn.pulses.items → pulse_at l.pulses.items node ≡ pulse_at l.fn.pulses.items node;
-  so_far : PulsesSoFar l.netlist l.setting.nodes.now l.setting.states.now l.setting.wires.now l.decisions (begins l.turn) l.tails l.pulses.items;
+  so_far : PulsesSoFar l.netlist l.setting.nodes.now l.setting.states.now l.setting.wires.now l.decisions (begins l.begin) l.tails l.pulses.items;
 }

@@ -14,16 +14,13 @@ draw_pulse-requires-clause-before c =
     subst (λ part. ArePredecessorsDrawn c.args.netlist.now before (form_of part.shape)) (sym c.part_of-part.ensures)
     (tails_from nodes c.requires.nodes c.args.setting.now.states.now c.args.netlist.now before c.requires.inside c.requires.before tail)
 
-pub draw_pulse-requires-clause-turn : goal.draw_pulse-requires-clause-turn
-draw_pulse-requires-clause-turn c = c.never.ensures c.args.netlist.now
-
 pub returns-clause-drawn : goal.returns-clause-drawn
 returns-clause-drawn c event begin tail =
     let nodes = c.args.setting.now.nodes.now in
     let before = c.args.before.now in
     let plan = plan_at nodes (length before) in
     let state = bit_at c.args.setting.now.states.now (length before) in
-    let is : c.part_of-part.result ≡ part_for plan state c.zero.result = c.part_of-part.ensures ∙ ap (λ state. part_for plan state c.zero.result) c.bit_of.ensures in
-    node_of_tail nodes c.draw_pulse.new.netlist plan state (λ now. told now c.zero.result) (begins c.never.result) event begin before c.in_ok-tail.tail tail (c.requires.nodes.tails (length before) c.requires.inside tail)
-    (node_from_part c.args.netlist.now c.draw_pulse.new.netlist plan state c.zero.result (λ now. told now c.zero.result) (begins c.never.result) before c.part_of-part.result c.in_ok-tail.tail
+    let is : c.part_of-part.result ≡ part_for plan state c.zero-nothing.result = c.part_of-part.ensures ∙ ap (λ state. part_for plan state c.zero-nothing.result) c.bit_of.ensures in
+    node_of_tail nodes c.draw_pulse.new.netlist plan state (λ now. told now c.zero-nothing.result) (begins c.zero-nothing.result) event begin before c.in_ok-tail.tail tail (c.requires.nodes.tails (length before) c.requires.inside tail)
+    (node_from_part c.args.netlist.now c.draw_pulse.new.netlist plan state c.zero-nothing.result (λ now. told now c.zero-nothing.result) (begins c.zero-nothing.result) before c.part_of-part.result c.in_ok-tail.tail
     c.in_ok-tail.ensures.extends is (λ now of. refl) c.in_ok-tail.ensures.bit c.in_ok-tail.ensures.known c.in_ok-tail.ensures.tells c.in_ok-tail.ensures.knows)

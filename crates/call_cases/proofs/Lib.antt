@@ -1,0 +1,4 @@
+pub mod Delays
+mod Memory
+mod Numbers
+mod Words
