@@ -11,9 +11,13 @@ use Rattle.command_words.specs.Form.{Command, Form, Part, commands, parts_of, su
 abbrev pub operand_rule : List ℕ → Rule
 operand_rule label = record (new_rule label) { required = true }
 
+-- a subcommand with an argument for each label
+abbrev pub with_labels : Text → List Text → Shape
+with_labels name labels = record (new_app name).top { rules = map operand_rule labels }
+
 -- a subcommand with an argument for each part
 abbrev pub with_parts : Text → List Part → Shape
-with_parts name parts = record (new_app name).top { rules = map (λ part. operand_rule part.label) parts }
+with_parts name parts = with_labels name (map (λ part. part.label) parts)
 
 -- that of a command: its word, and its parts
 abbrev pub subcommand_shape : Command → Shape

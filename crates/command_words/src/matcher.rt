@@ -1,9 +1,8 @@
 //! The command that clap matches words with: a subcommand for each form, with a required argument for each part.
-ghost use Rattle.std.specs.Prelude.{◌≡◌, IfOk, true, false};
+ghost use Rattle.std.specs.Prelude.{◌≡◌, IfOk, true, false, map};
 ghost use Rattle.clap.specs.Words.{app_of, rule_of};
 ghost use Rattle.clap.specs.declared.builder.command.Command.TheViews.{out-Command};
-ghost use Rattle.command_words.specs.Form.{check, gen, parts_of, run, runsv};
-ghost use Rattle.command_words.specs.Matched.{operand_rule, subcommand_shape, tool, with_parts};
+ghost use Rattle.command_words.specs.Matched.{operand_rule, tool, with_labels};
 
 use clap::{Arg, Command};
 use std::alloc::{AllocError, Global};
@@ -18,47 +17,28 @@ pub(crate) fn matcher<'a>(alloc: Global) -> Result<Command<'a>, AllocError>
         .disable_help_subcommand(true)
         .disable_version_flag(true)
         .subcommand_required(true)
-        .subcommand(file_command(alloc, "check")?)?
-        .subcommand(file_command(alloc, "compile")?)?
-        .subcommand(run_command(alloc)?)?
-        .subcommand(run_module_command(alloc)?)?
-        .subcommand(generate_command(alloc)?)
+        .subcommand(with_operands(alloc, "check", &["FILE"])?)?
+        .subcommand(with_operands(alloc, "compile", &["FILE"])?)?
+        .subcommand(with_operands(alloc, "run", &["FILE", "PROC", "STIM"])?)?
+        .subcommand(with_operands(alloc, "runsv", &["FILE", "SV", "PROC", "STIM"])?)?
+        .subcommand(with_operands(alloc, "gen", &["NUMBER"])?)
 }
 
-// A command with the one part FILE.
-fn file_command<'a>(alloc: Global, name: &'a str) -> Result<Command<'a>, AllocError>
-    ensures shape { IfOk result (λ command. (app_of command).top ≡ with_parts name.entry.now (parts_of check)) }
+// A subcommand of the name, with an argument for each label, in order.
+fn with_operands<'a>(
+    alloc: Global,
+    name: &'a str,
+    labels: &[&'a str],
+) -> Result<Command<'a>, AllocError>
+    ensures shape { IfOk result (λ command.
+        (app_of command).top ≡ with_labels name.entry.now (map (λ label. label.now) labels.entry.now)) }
     ensures local { IfOk result (λ command. (out-Command command).has_globals ≡ false) }
 {
-    Command::new(alloc, name).arg(operand(alloc, "FILE"))
-}
-
-fn run_command<'a>(alloc: Global) -> Result<Command<'a>, AllocError>
-    ensures shape { IfOk result (λ command. (app_of command).top ≡ subcommand_shape run) }
-    ensures local { IfOk result (λ command. (out-Command command).has_globals ≡ false) }
-{
-    Command::new(alloc, "run")
-        .arg(operand(alloc, "FILE"))?
-        .arg(operand(alloc, "PROC"))?
-        .arg(operand(alloc, "STIM"))
-}
-
-fn run_module_command<'a>(alloc: Global) -> Result<Command<'a>, AllocError>
-    ensures shape { IfOk result (λ command. (app_of command).top ≡ subcommand_shape runsv) }
-    ensures local { IfOk result (λ command. (out-Command command).has_globals ≡ false) }
-{
-    Command::new(alloc, "runsv")
-        .arg(operand(alloc, "FILE"))?
-        .arg(operand(alloc, "SV"))?
-        .arg(operand(alloc, "PROC"))?
-        .arg(operand(alloc, "STIM"))
-}
-
-fn generate_command<'a>(alloc: Global) -> Result<Command<'a>, AllocError>
-    ensures shape { IfOk result (λ command. (app_of command).top ≡ subcommand_shape gen) }
-    ensures local { IfOk result (λ command. (out-Command command).has_globals ≡ false) }
-{
-    Command::new(alloc, "gen").arg(operand(alloc, "NUMBER"))
+    let mut command = Command::new(alloc, name);
+    for label in labels {
+        command = command.arg(operand(alloc, label))?;
+    }
+    Ok(command)
 }
 
 // An argument for a part.

@@ -24,10 +24,10 @@ returns c =
     ∙ ap (λ (f : Command-F Command). record f { disable_help_flag = true }) c.no_binary_name.ensures))) in
     let settings : app_of c.subcommand_required.result ≡ with_settings (app_of c.new.result) = ap app_of_fields fields in
     let top = settings ∙ ap with_settings c.new.ensures.app in
-    let one = c.in_ok-subcommand.ensures.shape c.in_ok-file_command.ensures.local ∙ ap₂ with_subcommand top c.in_ok-file_command.ensures.shape in
-    let two = c.in_ok-subcommand-2.ensures.shape c.in_ok-file_command-2.ensures.local ∙ ap₂ with_subcommand one c.in_ok-file_command-2.ensures.shape in
-    let three = c.in_ok-subcommand-3.ensures.shape c.in_ok-run_command.ensures.local ∙ ap₂ with_subcommand two c.in_ok-run_command.ensures.shape in
-    let four = c.in_ok-subcommand-4.ensures.shape c.in_ok-run_module_command.ensures.local ∙ ap₂ with_subcommand three c.in_ok-run_module_command.ensures.shape in
+    let one = c.in_ok-subcommand.ensures.shape c.in_ok-with_operands.ensures.local ∙ ap₂ with_subcommand top c.in_ok-with_operands.ensures.shape in
+    let two = c.in_ok-subcommand-2.ensures.shape c.in_ok-with_operands-2.ensures.local ∙ ap₂ with_subcommand one c.in_ok-with_operands-2.ensures.shape in
+    let three = c.in_ok-subcommand-3.ensures.shape c.in_ok-with_operands-3.ensures.local ∙ ap₂ with_subcommand two c.in_ok-with_operands-3.ensures.shape in
+    let four = c.in_ok-subcommand-4.ensures.shape c.in_ok-with_operands-4.ensures.local ∙ ap₂ with_subcommand three c.in_ok-with_operands-4.ensures.shape in
     IfOk-weaker c.subcommand-5.result _ _
-    (λ made added. added.shape c.in_ok-generate_command.ensures.local ∙ ap₂ with_subcommand four c.in_ok-generate_command.ensures.shape)
+    (λ made added. added.shape c.in_ok-with_operands-5.ensures.local ∙ ap₂ with_subcommand four c.in_ok-with_operands-5.ensures.shape)
     c.subcommand-5.ensures
