@@ -9,6 +9,46 @@ use tool_bench::{Call, Ended, Extent, Faults, NO_FAULTS, call_against, call_besi
 /// More puts than a call makes.
 const MANY: u32 = 10_000;
 
+// Where puts fail.
+#[derive(Clone, Copy)]
+enum Stream {
+    Out,
+    Err,
+}
+
+impl Stream {
+    // The faults of puts of these numbers.
+    fn fails_at(self, numbers: &[u32]) -> Faults<'_> {
+        match self {
+            Stream::Out => Faults {
+                outs: numbers,
+                ..NO_FAULTS
+            },
+            Stream::Err => Faults {
+                errs: numbers,
+                ..NO_FAULTS
+            },
+        }
+    }
+
+    fn length_of(self, end: Ended) -> usize {
+        match self {
+            Stream::Out => end.out_length,
+            Stream::Err => end.err_length,
+        }
+    }
+
+    // Whether a put failed after at least so many bytes: a front part stands on the stream. Nothing stands on `err` where it was a put to `out`, and
+    // all that is wanted on `out` where it was one to `err`.
+    fn is_cut(self, end: Ended, length: usize) -> bool {
+        let stands = match self {
+            Stream::Out => end.out == Extent::Front && end.err_length == 0,
+            Stream::Err => end.err == Extent::Front && end.out == Extent::Whole,
+        };
+        end.status == Status::WriteFault && stands && self.length_of(end) >= length
+    }
+}
+
 // How a case ends with these faults, beside its answer without any.
 fn ended(alloc: Global, case: &Case<'_>, faults: Faults<'_>) -> Result<Ended, AllocError> {
     match case.out {
@@ -47,51 +87,22 @@ fn loads_that_fail(alloc: Global, case: &Case<'_>) -> Result<u32, AllocError> {
     Ok(number)
 }
 
-// How many puts to `out` fail in turn, each with a front part of what is wanted on `out`, at least as long as the one before, and nothing on
-// `err`, until the call ends with its answer; or none where one ends otherwise.
-fn outs_that_fail(alloc: Global, case: &Case<'_>) -> Result<Option<u32>, AllocError> {
+// How many puts to a stream fail in turn, each cut short as `is_cut` says, until the call ends with its answer; or none where one ends otherwise.
+fn puts_that_fail(
+    alloc: Global,
+    case: &Case<'_>,
+    stream: Stream,
+) -> Result<Option<u32>, AllocError> {
     let mut length = 0usize;
     for number in 0..MANY {
-        let end = ended(
-            alloc,
-            case,
-            Faults {
-                outs: &[number],
-                ..NO_FAULTS
-            },
-        )?;
+        let end = ended(alloc, case, stream.fails_at(&[number]))?;
         if is_answer(case, end) {
             return Ok(Some(number));
         }
-        let cut = end.status == Status::WriteFault && end.out == Extent::Front;
-        if !cut || end.err_length > 0 || end.out_length < length {
+        if !stream.is_cut(end, length) {
             break;
         }
-        length = end.out_length;
-    }
-    Ok(None)
-}
-
-// The same of puts to `err`, with what is wanted on `out`, and a front part of the line on `err`.
-fn errs_that_fail(alloc: Global, case: &Case<'_>) -> Result<Option<u32>, AllocError> {
-    let mut length = 0usize;
-    for number in 0..MANY {
-        let end = ended(
-            alloc,
-            case,
-            Faults {
-                errs: &[number],
-                ..NO_FAULTS
-            },
-        )?;
-        if is_answer(case, end) {
-            return Ok(Some(number));
-        }
-        let cut = end.status == Status::WriteFault && end.err == Extent::Front;
-        if !cut || end.out != Extent::Whole || end.err_length < length {
-            break;
-        }
-        length = end.err_length;
+        length = stream.length_of(end);
     }
     Ok(None)
 }
@@ -122,7 +133,7 @@ fn each_load_fails_in_turn(rt: HostRuntime) -> Result<(), Fail> {
 fn each_put_of_out_fails_in_turn(rt: HostRuntime) -> Result<(), Fail> {
     for cases in &CALLS {
         for case in *cases {
-            let number = outs_that_fail(rt.alloc(), case)?;
+            let number = puts_that_fail(rt.alloc(), case, Stream::Out)?;
             let all = number.is_some_and(|number| may_put(case, number));
             assert!(rt; all, "{}: {number:?}", case.what);
         }
@@ -135,7 +146,7 @@ fn each_put_of_out_fails_in_turn(rt: HostRuntime) -> Result<(), Fail> {
 fn each_put_of_err_fails_in_turn(rt: HostRuntime) -> Result<(), Fail> {
     for cases in &CALLS {
         for case in *cases {
-            let number = errs_that_fail(rt.alloc(), case)?;
+            let number = puts_that_fail(rt.alloc(), case, Stream::Err)?;
             let all = number.is_some_and(|number| (number > 0) != case.err.is_empty());
             assert!(rt; all, "{}: {number:?}", case.what);
         }

@@ -8,18 +8,14 @@ ghost use Rattle.tool_answers.specs.declared.refusal.Refusal.{Refusal};
 ghost use Rattle.tool_answers.specs.Answer.{Breaks, BreachFailed, Ends, HasNoFault, IsBreach, IsFirstRefusal, IsReadFault, IsRefusedBy, IsTooLong, IsUntouched, IsWritten, LineFailed, OutFailed, Overflows, Tells};
 ghost use Rattle.tool_answers.specs.Answered.{Answered, shelf_seen, sink_seen};
 ghost use Rattle.tool_answers.specs.Lines.{IsLineOf, no_memory_line, refusal_line};
-ghost use Rattle.anvil_tool.specs.SameLog.{AnswersAsRun, HasWritten};
-ghost use Rattle.anvil_tool.specs.Stages.{IsLineFor, start_of};
+ghost use Rattle.tool_stages.specs.SameLog.{AnswersAsRun, HasWritten};
+ghost use Rattle.tool_stages.specs.Stages.{IsLineFor, start_of};
 
-use crate::check::check_file;
-use crate::compile::compile_file;
-use crate::generate::summarise;
-use crate::run::run_file;
-use crate::run_module::{ModuleRun, run_module_file};
 use anvil_io::{Shelf, Sink};
 use command_words::{Command, form_of, usage};
 use std::alloc::Global;
 use tool_answers::{Status, complain_memory, complain_usage};
+use tool_commands::{ModuleRun, check_file, compile_file, run_file, run_module_file, summarise};
 
 /// Does what the words say: `check FILE` puts a line to `out` where a file keeps the timing rules, `compile FILE` then puts the modules
 /// of its processes, in the order of the file, `run FILE PROC STIM` the log of a process on the rows of a stimulus,

@@ -11,9 +11,9 @@ use Rattle.tool_answers.specs.Answer.{Breaks, Ends, HasNoFault, IsFirstRefusal, 
 use Rattle.tool_answers.specs.Answered.{Says, ShelfSeen, SinkSeen, shelf_seen, sink_seen}
 use Rattle.tool_answers.specs.Lines.{IsLineOf, no_memory_line, refusal_line}
 use Rattle.tool_answers.proofs.Ways.{no_rise}
-use Rattle.anvil_tool.specs.SameLog.{AnswersAsRun, HasWritten}
-use Rattle.anvil_tool.specs.Stages.{IsLineFor, start_of}
-use Rattle.anvil_tool.proofs.AsRun.{as_run}
+use Rattle.tool_stages.specs.SameLog.{AnswersAsRun, HasWritten}
+use Rattle.tool_stages.specs.Stages.{IsLineFor, start_of}
+use Rattle.tool_stages.proofs.AsRun.{as_run}
 use Rattle.anvil_tool.proofs.tool.run_tool.Goals as goal
 
 -- what holds of every form holds of that which there is

@@ -1,8 +1,0 @@
--- The processes so far have their modules.
-use Rattle.std.proofs.Common.{take}
-use Rattle.core_term.specs.AcceptedFile.{file_of}
-use Rattle.anvil_tool.specs.Output.{AreModules}
-use Rattle.anvil_tool.proofs.modules.modules_of.Given as goal
-
-abbrev pub invariant-loop-proc : goal.invariant-loop-proc
-invariant-loop-proc l = AreModules (file_of (take l.proc-index l.fn.procs)) l.modules.items

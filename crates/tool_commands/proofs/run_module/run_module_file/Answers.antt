@@ -1,0 +1,20 @@
+-- The file is loaded, or not.
+use Rattle.std.proofs.Common.{[], ◌∷◌, refl}
+use Rattle.command_words.specs.Form.{file_load, stimulus_load, text_load}
+use Rattle.tool_answers.specs.Answer.{MayGive}
+use Rattle.tool_answers.proofs.Steps.{load_fails, loads_on}
+use Rattle.tool_stages.specs.Stages.{module_stages}
+use Rattle.tool_stages.proofs.ModuleRuns.{module_exact}
+use Rattle.tool_commands.proofs.run_module.run_module_file.Goals as goal
+
+pub returns-in-Ok : goal.returns-in-Ok
+returns-in-Ok g c =
+    let told = g.S.Shelf.told c.args.shelf.now in
+    let given : MayGive told (file_load c.args.words.file.now) c.deref.result.now = rw c.deref.ensures.value (record { kept = c.in-Ok.ensures.bytes; within = c.in-Ok.ensures.within }) in
+    loads_on (module_stages c.args.words.process.now) (module_exact c.args.words.process.now) ([]) (file_load c.args.words.file.now) (text_load c.args.words.text.now ∷ stimulus_load c.args.words.stimulus.now ∷ []) tt told c.deref.result.now given _ _ _ _ _ _ _
+    (g.S.Shelf.told c.load.new.self) (g.S.Shelf.faults c.load.new.self) (g.S.Shelf.taken c.load.new.self) (λ i n. c.load.ensures.kept n i) c.in-Ok.ensures.fault.ok c.in-Ok.ensures.too_long.later c.choose_process.ensures
+
+pub returns : goal.returns
+returns g c =
+    load_fails (module_stages c.args.words.process.now) (module_exact c.args.words.process.now) ([]) (file_load c.args.words.file.now) (text_load c.args.words.text.now ∷ stimulus_load c.args.words.stimulus.now ∷ []) tt _ _ _ _ (record { same = refl; fine = refl }) c.in-Err.fault c.in-Err.ensures.fault
+    c.in-Err.ensures.too_long c.complain_load.ensures
