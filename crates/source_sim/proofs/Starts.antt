@@ -1,5 +1,6 @@
 -- What a new simulation keeps is what is asked of it, over plain variables.
-use Rattle.std.proofs.Common.{◌≡◌, ℕ, ◌<◌, ◌∙◌, refl, sym, subst, ap, List, [], length, map, false, IsTrue}
+use Rattle.std.proofs.Common.{◌≡◌, ℕ, ◌<◌, ◌≤◌, ◌∙◌, arith, refl, sym, subst, ap, List, [], ◌∷◌, ◌++◌, length, map, take, get_or, zero, suc, false, IsTrue}
+use Rattle.std.proofs.lemmas.List.{take_all}
 use Rattle.anvil_bits.specs.Number.{Number}
 use Rattle.core_term.specs.declared.process.CorePort.{CorePort}
 use Rattle.core_term.specs.declared.process.CoreReg.{CoreReg}
@@ -9,11 +10,32 @@ use Rattle.core_term.specs.ProcessView.{port_of, process_of}
 use Rattle.core_term.specs.Sized.{is_sized}
 use Rattle.exchanges.specs.declared.latest.Latest.{Latest}
 use Rattle.sim_laws.specs.Kept.{Kept, AllReady, SameBodies}
-use Rattle.sim_laws.specs.Stands.{State, StandsAfter, latest_at}
+use Rattle.sim_laws.specs.Stands.{StandsAfter, latest_at}
 use Rattle.sim_laws.specs.Typed.{AreRegisters}
 use Rattle.sim_laws.specs.WidthsFound.{start_of, start_number, start_latest}
 use Rattle.sim_laws.proofs.Counts.{map_count}
 use Rattle.sim_laws.proofs.Started.{at_start, start_registers, start_latests, start_stands}
+
+-- A loop that pushes what it makes of each item.
+
+module _ {X Y : Type 0} (f : X → Y) where
+  taken : (xs : List X) (i : ℕ) (x : X) → i < length xs → x ≡ get_or xs i x → map f (take (suc i) xs) ≡ map f (take i xs) ++ f x ∷ []
+  taken [] i x l e = absurd (omega arith)
+  taken (y ∷ xs) zero x l e = ap (λ z. f z ∷ []) (sym e)
+  taken (y ∷ xs) (suc i) x l e = ap (λ rest. f y ∷ rest) (taken xs i x (omega arith) e)
+
+  pub mapped_step : (xs : List X) (i later : ℕ) (x : X) (made made' : List Y) (v : Y) → later ≡ suc i → i < length xs → x ≡ get_or xs i x → v ≡ f x → made ≡ map f (take i xs) → made' ≡ made ++ v ∷ [] → made' ≡ map f (take later xs)
+  mapped_step xs i later x made made' v e l item v_is before after =
+      after ∙ (ap (λ ys. ys ++ v ∷ []) before ∙ (ap (λ y. map f (take i xs) ++ y ∷ []) v_is ∙ (sym (taken xs i x l item) ∙ ap (λ n. map f (take n xs)) (sym e))))
+
+  pub mapped_done : (xs : List X) (i : ℕ) (made : List Y) → length xs ≤ i → made ≡ map f (take i xs) → made ≡ map f xs
+  mapped_done xs i made l before = before ∙ ap (map f) (take_all i xs l)
+
+-- a number that is read out of a list
+pub number_read : (xs : List ℕ) (i : ℕ) → i < length xs → get_or xs i 0 ≡ get_or xs i (get_or xs i 0)
+number_read [] i l = absurd (omega arith)
+number_read (x ∷ xs) zero l = refl
+number_read (x ∷ xs) (suc i) l = number_read xs i (omega arith)
 
 -- what the calls of `new` have made
 pub record Begun : Type 0 where

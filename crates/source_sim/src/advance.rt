@@ -1,12 +1,9 @@
 //! One cycle of the acts of a turn.
-ghost use Rattle.std.specs.Prelude.{◌≡◌, IsTrue, length, map};
-ghost use Rattle.core_term.specs.ProcessView.{port_of};
-ghost use Rattle.core_term.specs.Rows.{cells_fit};
-ghost use Rattle.sim_laws.specs.Advance.{advance as advanced, advance_act as act_advanced, later_made};
-ghost use Rattle.sim_laws.specs.Typed.{term_in, act_in, Typed, TypedAct, AreWide, AreRegisters};
-ghost use Rattle.source_sim.specs.NowSeen.{widths_in};
+ghost use Rattle.std.specs.Prelude.{◌≡◌};
+ghost use Rattle.sim_laws.specs.Advance.{later_made};
+ghost use Rattle.source_sim.specs.NowSeen.{act_now, term_now, ActFits, TermFits, IsSeen, advance_now, advance_act_now, inside_now};
 
-use crate::act::{close, close_alone, close_unit, visit};
+use crate::act::{alone, close, unit, visit};
 use crate::now::Now;
 use anvil_bits::Bits;
 use core_term::{CoreAct, CoreKind, CoreTerm};
@@ -17,13 +14,9 @@ use sim_laws::ActState;
 /// An act that is reached for the first time begins.
 #[cycle(advance)]
 pub fn advance(term: &CoreTerm, now: &Now, acts: &mut [ActState]) -> Option<Bits>
-    requires typed { Typed (length now.now.widths.now) (length now.now.registers.now) (map port_of now.now.ports.now) (widths_in now.now) (term_in (widths_in now.now) term.now) }
-    requires wide { AreWide now.now.widths.now (widths_in now.now) acts.old }
-    requires registers { AreRegisters now.now.regs.now now.now.registers.now }
-    requires cells { IsTrue (cells_fit (map port_of now.now.ports.now) now.now.cells.now) }
-    ensures made { result ≡ (advanced now.now.cells.now now.now.registers.now (term_in (widths_in now.now) term.now) acts.old).made }
-    ensures acts { acts.new ≡ (advanced now.now.cells.now now.now.registers.now (term_in (widths_in now.now) term.now) acts.old).acts }
-    ensures wide { AreWide now.now.widths.now (widths_in now.now) acts.new }
+    requires fits { TermFits now.now (term_now now.now term.now) }
+    requires seen { IsSeen now.now acts.old }
+    ensures { advance_now now.now (term_now now.now term.now) acts.old ≡ record { made = result; acts = acts.new } }
 {
     match term {
         CoreTerm::One(act) => advance_act(act, now, acts),
@@ -41,15 +34,24 @@ pub fn advance(term: &CoreTerm, now: &Now, acts: &mut [ActState]) -> Option<Bits
 
 #[cycle(advance)]
 fn advance_act(act: &CoreAct, now: &Now, acts: &mut [ActState]) -> Option<Bits>
-    requires typed { TypedAct (length now.now.widths.now) (length now.now.registers.now) (map port_of now.now.ports.now) (widths_in now.now) (act_in (widths_in now.now) act.now.site act.now.kind) }
-    requires wide { AreWide now.now.widths.now (widths_in now.now) acts.old }
-    requires registers { AreRegisters now.now.regs.now now.now.registers.now }
-    requires cells { IsTrue (cells_fit (map port_of now.now.ports.now) now.now.cells.now) }
-    ensures made { result ≡ (act_advanced now.now.cells.now now.now.registers.now (act_in (widths_in now.now) act.now.site act.now.kind) acts.old).made }
-    ensures acts { acts.new ≡ (act_advanced now.now.cells.now now.now.registers.now (act_in (widths_in now.now) act.now.site act.now.kind) acts.old).acts }
-    ensures wide { AreWide now.now.widths.now (widths_in now.now) acts.new }
+    requires fits { ActFits now.now (act_now now.now act.now) }
+    requires seen { IsSeen now.now acts.old }
+    ensures step { advance_act_now now.now (act_now now.now act.now) acts.old
+        ≡ record { made = result; acts = acts.new } }
+    ensures seen { IsSeen now.now acts.new }
 {
     visit(act, now, acts);
+    let made = inside(act, now, acts);
+    close(act.site as usize, made, acts)
+}
+
+/// What stands inside an act that was reached goes on, and the act tells what it has made by now.
+#[cycle(advance)]
+fn inside(act: &CoreAct, now: &Now, acts: &mut [ActState]) -> Option<Bits>
+    requires fits { ActFits now.now (act_now now.now act.now) }
+    requires seen { IsSeen now.now acts.old }
+    ensures { inside_now now.now (act_now now.now act.now) acts.old ≡ record { made = result; acts = acts.new } }
+{
     let site = act.site as usize;
     match &act.kind {
         CoreKind::If { yes, no, word, .. } => {
@@ -58,34 +60,22 @@ fn advance_act(act: &CoreAct, now: &Now, acts: &mut [ActState]) -> Option<Bits>
                 None => {
                     if chosen {
                         let made = advance(yes, now, acts);
-                        close_unit(site, made, acts)
+                        unit(made, acts[site].made)
                     } else {
-                        close_unit(site, Some(Bits::new(1, 0)), acts)
+                        Some(acts[site].made)
                     }
                 }
-                Some(other) => match word {
-                    None => {
-                        let made = advance(if chosen { yes } else { other }, now, acts);
-                        close_unit(site, made, acts)
+                Some(other) => {
+                    let made = advance(if chosen { yes } else { other }, now, acts);
+                    match word {
+                        None => unit(made, acts[site].made),
+                        Some(_) => made,
                     }
-                    Some(_) => {
-                        let made = advance(if chosen { yes } else { other }, now, acts);
-                        close(site, made, acts)
-                    }
-                },
+                }
             }
         }
-        CoreKind::Block(inner) => {
-            let made = advance(inner, now, acts);
-            close(site, made, acts)
-        }
-        CoreKind::Cycle(_) => close_alone(act, now, acts),
-        CoreKind::Set { .. } => close_alone(act, now, acts),
-        CoreKind::Send { .. } => close_alone(act, now, acts),
-        CoreKind::Recv { .. } => close_alone(act, now, acts),
-        CoreKind::Wait { .. } => close_alone(act, now, acts),
-        CoreKind::Pure(_) => close_alone(act, now, acts),
-        CoreKind::Unit => close_alone(act, now, acts),
+        CoreKind::Block(inner) => advance(inner, now, acts),
+        _ => alone(act, now, acts),
     }
 }
 

@@ -1,11 +1,7 @@
 //! One cycle of a thread: its turn goes on, or the next turn begins.
-ghost use Rattle.std.specs.Prelude.{◌≡◌, IsTrue, length, map};
-ghost use Rattle.core_term.specs.ProcessView.{port_of};
-ghost use Rattle.core_term.specs.Rows.{cells_fit};
-ghost use Rattle.sim_laws.specs.Advance.{advance as advanced};
-ghost use Rattle.sim_laws.specs.Passes.{cleared, thread_step};
-ghost use Rattle.sim_laws.specs.Typed.{term_in, Typed, AreWide, AreRegisters};
-ghost use Rattle.source_sim.specs.NowSeen.{widths_in};
+ghost use Rattle.std.specs.Prelude.{◌≡◌};
+ghost use Rattle.sim_laws.specs.Passes.{cleared};
+ghost use Rattle.source_sim.specs.NowSeen.{term_now, TermFits, IsSeen, advance_now, step_now};
 
 use crate::advance::advance;
 use crate::now::Now;
@@ -20,12 +16,10 @@ use std::marker::Model;
 
 /// A turn begins.
 fn begin_turn(body: &CoreTerm, now: &Now, acts: &mut [ActState])
-    requires typed { Typed (length now.now.widths.now) (length now.now.registers.now) (map port_of now.now.ports.now) (widths_in now.now) (term_in (widths_in now.now) body.now) }
-    requires wide { AreWide now.now.widths.now (widths_in now.now) acts.old }
-    requires registers { AreRegisters now.now.regs.now now.now.registers.now }
-    requires cells { IsTrue (cells_fit (map port_of now.now.ports.now) now.now.cells.now) }
-    ensures acts { acts.new ≡ (advanced now.now.cells.now now.now.registers.now (term_in (widths_in now.now) body.now) (cleared acts.old)).acts }
-    ensures wide { AreWide now.now.widths.now (widths_in now.now) acts.new }
+    requires fits { TermFits now.now (term_now now.now body.now) }
+    requires seen { IsSeen now.now acts.old }
+    ensures acts { acts.new ≡ (advance_now now.now (term_now now.now body.now) (cleared acts.old)).acts }
+    ensures seen { IsSeen now.now acts.new }
 {
     clear(acts);
     advance(body, now, acts);
@@ -33,12 +27,10 @@ fn begin_turn(body: &CoreTerm, now: &Now, acts: &mut [ActState])
 
 /// One cycle of a thread, of which a turn has begun or none has.
 pub fn step_thread(body: &CoreTerm, begun: bool, now: &Now, acts: &mut [ActState])
-    requires typed { Typed (length now.now.widths.now) (length now.now.registers.now) (map port_of now.now.ports.now) (widths_in now.now) (term_in (widths_in now.now) body.now) }
-    requires wide { AreWide now.now.widths.now (widths_in now.now) acts.old }
-    requires registers { AreRegisters now.now.regs.now now.now.registers.now }
-    requires cells { IsTrue (cells_fit (map port_of now.now.ports.now) now.now.cells.now) }
-    ensures acts { acts.new ≡ thread_step now.now.cells.now now.now.registers.now (term_in (widths_in now.now) body.now) begun acts.old }
-    ensures wide { AreWide now.now.widths.now (widths_in now.now) acts.new }
+    requires fits { TermFits now.now (term_now now.now body.now) }
+    requires seen { IsSeen now.now acts.old }
+    ensures acts { acts.new ≡ step_now now.now (term_now now.now body.now) begun acts.old }
+    ensures seen { IsSeen now.now acts.new }
 {
     if begun {
         match advance(body, now, acts) {

@@ -1,6 +1,7 @@
 //! The widths of the acts of a body by their sites, found in one walk.
-ghost use Rattle.std.specs.Prelude.{◌≡◌, ◌++◌, ◌∷◌, [], IfOk, slice_get, slice_set};
-ghost use Rattle.sim_laws.specs.WidthsFound.{or_zero as known_or_zero, register_width as width_of_register, port_width as width_of_port, result_found, expr_found, walk, walk_act};
+ghost use Rattle.std.specs.Prelude.{◌≡◌, IfOk, slice_get, slice_set};
+ghost use Rattle.sim_laws.specs.WidthsFound.{or_zero as known_or_zero, register_width as width_of_register, port_width as width_of_port, result_found, expr_found, with_width, walk, walk_act};
+ghost use Rattle.source_sim.specs.NowSeen.{width_alone};
 
 use core_term::{BinOp, CoreAct, CoreExpr, CoreKind, CorePort, CoreReg, CoreTerm};
 use std::alloc::AllocError;
@@ -77,14 +78,27 @@ fn expr_width(expr: &CoreExpr, regs: &[CoreReg], widths: &[u8]) -> u8
 }
 
 fn push(width: u8, widths: &mut Vec<u8>) -> Result<u8, AllocError>
-    ensures width { IfOk result (λ found. found ≡ width) }
-    ensures widths { IfOk result (λ _. widths.new.items ≡ widths.old.items ++ width ∷ []) }
+    ensures { IfOk result (λ found.
+        with_width widths.old.items width ≡ record { width = found; widths = widths.new.items }) }
 {
     widths.push(width)?;
     Ok(width)
 }
 
-/// Adds the widths of the acts of `term` at the end of `widths`, and gives the width of the term itself. Unit has the width 0.
+/// The width of the value of an act of no parts.
+fn alone(act: &CoreAct, ports: &[CorePort], regs: &[CoreReg], widths: &[u8]) -> u8
+    ensures { result ≡ width_alone ports.now regs.now widths.now act.now.kind }
+{
+    match &act.kind {
+        CoreKind::Recv { port } => port_width(ports, *port),
+        CoreKind::Wait { var } => width_at(widths, *var),
+        CoreKind::Pure(expr) => expr_width(expr, regs, widths),
+        _ => 0,
+    }
+}
+
+/// Adds the widths of the acts of `term` at the end of `widths`, and gives the width of the term itself. Unit has the
+/// width 0.
 #[cycle(walk)]
 pub fn add_widths(
     term: &CoreTerm,
@@ -92,8 +106,8 @@ pub fn add_widths(
     regs: &[CoreReg],
     widths: &mut Vec<u8>,
 ) -> Result<u8, AllocError>
-    ensures width { IfOk result (λ width. width ≡ (walk ports.now regs.now term.now widths.old.items).width) }
-    ensures widths { IfOk result (λ _. widths.new.items ≡ (walk ports.now regs.now term.now widths.old.items).widths) }
+    ensures { IfOk result (λ found. walk ports.now regs.now term.now widths.old.items
+        ≡ record { width = found; widths = widths.new.items }) }
 {
     match term {
         CoreTerm::One(act) => add_act_widths(act, ports, regs, widths),
@@ -111,16 +125,10 @@ fn add_act_widths(
     regs: &[CoreReg],
     widths: &mut Vec<u8>,
 ) -> Result<u8, AllocError>
-    ensures width { IfOk result (λ width. width ≡ (walk_act ports.now regs.now act.now.kind widths.old.items).width) }
-    ensures widths { IfOk result (λ _. widths.new.items ≡ (walk_act ports.now regs.now act.now.kind widths.old.items).widths) }
+    ensures { IfOk result (λ found. walk_act ports.now regs.now act.now.kind widths.old.items
+        ≡ record { width = found; widths = widths.new.items }) }
 {
     match &act.kind {
-        CoreKind::Cycle(_) | CoreKind::Set { .. } | CoreKind::Send { .. } | CoreKind::Unit => {
-            push(0, widths)
-        }
-        CoreKind::Recv { port } => push(port_width(ports, *port), widths),
-        CoreKind::Wait { var } => push(width_at(widths.as_slice(), *var), widths),
-        CoreKind::Pure(expr) => push(expr_width(expr, regs, widths.as_slice()), widths),
         CoreKind::If { yes, no, word, .. } => {
             let width = push(or_zero(*word), widths)?;
             add_widths(yes, ports, regs, widths)?;
@@ -131,11 +139,12 @@ fn add_act_widths(
         }
         CoreKind::Block(inner) => {
             let place = widths.len();
-            widths.push(0)?;
+            push(0, widths)?;
             let width = add_widths(inner, ports, regs, widths)?;
             set_width(place, width, widths.as_mut_slice());
             Ok(width)
         }
+        _ => push(alone(act, ports, regs, widths.as_slice()), widths),
     }
 }
 

@@ -5,13 +5,14 @@ use Rattle.sv_tree.specs.Module.{Module}
 use Rattle.sv_tree.specs.WellFormed.{IsWellFormed}
 use Rattle.sv_reader.specs.declared.error.SvErr.{SvErr}
 use Rattle.sv_reader.specs.declared.error.SvErr.TheVariants.{NotEmitted, NoMemory}
-use Rattle.sv_reader.specs.declared.fault.Fault.{Fault}
-use Rattle.sv_reader.specs.declared.fault.Fault.TheVariants as fault
-use Rattle.sv_reader.specs.declared.draft.Draft.{Draft}
+use Rattle.sv_draft.specs.declared.fault.Fault.{Fault}
+use Rattle.sv_draft.specs.declared.fault.Fault.TheVariants as fault
+use Rattle.sv_draft.specs.declared.draft.Draft.{Draft}
 use Rattle.sv_reader.specs.declared.reading.Reading.{Reading}
-use Rattle.sv_reader.specs.declared.wanted.Wanted.{Wanted}
+use Rattle.sv_draft.specs.declared.wanted.Wanted.{Wanted}
 use Rattle.sv_lines.specs.State as state
-use Rattle.sv_reader.specs.SeenDraft.{draft_of, wanted_of}
+use Rattle.sv_draft.specs.SeenDraft.{draft_of}
+use Rattle.sv_draft.specs.Reached.{wanted_of}
 use Rattle.sv_lines.specs.Refused.{IsNotEmitted}
 
 abbrev pub state_by : List Module → Wanted → Option Draft → state.State

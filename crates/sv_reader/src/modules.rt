@@ -2,14 +2,13 @@
 ghost use Rattle.std.specs.Prelude.{◌≡◌, ◌++◌, ◌∷◌, [], false, map, bytes_eq, MatchResult};
 ghost use Rattle.std.specs.List.{list_any};
 ghost use Rattle.sv_tree.specs.Module.{Module};
-ghost use Rattle.sv_reader.specs.declared.fault.Fault.TheVariants.{NoMemory};
+ghost use Rattle.sv_draft.specs.declared.fault.Fault.TheVariants.{NoMemory};
 
-use crate::fault::Fault;
-use crate::tables::push;
 use anvil_lexer::Name;
 use indexmap::IndexSet;
 use std::alloc::Global;
 use std::marker::Model;
+use sv_draft::{Fault, push};
 use sv_tree::SvModule;
 
 /// Whole modules, in order.
@@ -71,7 +70,10 @@ impl ModuleTable {
                     Err(Fault::NoMemory)
                 }
             },
-            Err(fault) => Err(fault),
+            Err(fault) => {
+                drop(name);
+                Err(fault)
+            }
         }
     }
 }

@@ -9,9 +9,9 @@ ghost use Rattle.sv_lines.specs.Step.{read_on, read_to_end, stopped};
 ghost use Rattle.sv_reader.specs.SeenState.{IsRefusedBy, Quiet, fault_at, is_quiet_byte, state_of};
 
 use crate::error::SvErr;
-use crate::fault::Fault;
 use crate::reading::Reading;
 use std::alloc::Global;
+use sv_draft::Fault;
 use sv_tree::SvModule;
 
 const LINE_FEED: u8 = 10;
@@ -54,7 +54,8 @@ fn read_lines(alloc: Global, text: &[u8]) -> Result<(Reading<'_>, &[u8]), SvErr>
     requires { length text.now ≤ 2 ^ 24 }
     ensures lines { MatchResult result
         (λ end. read_on start 0 [] text.now ≡ read_to_end (state_of end.0) end.1.now)
-        (λ fault. (fault ≡ SvErr.NoMemory) ⊎ ((at : ℕ) × (fault ≡ SvErr.NotEmitted at) × (read_on start 0 [] text.now ≡ stopped at))) }
+        (λ fault. (fault ≡ SvErr.NoMemory)
+        ⊎ ((at : ℕ) × (fault ≡ SvErr.NotEmitted at) × (read_on start 0 [] text.now ≡ stopped at))) }
     ensures left { IfOk result (λ end. length end.1.now ≤ length text.now) }
 {
     let mut reading = Reading::new(alloc);
@@ -62,7 +63,10 @@ fn read_lines(alloc: Global, text: &[u8]) -> Result<(Reading<'_>, &[u8]), SvErr>
     while let Some((line, behind)) = first_line(rest) {
         match reading.step(alloc, line) {
             Ok(()) => rest = behind,
-            Err(fault) => return Err(refusal(fault, text.len() - rest.len())),
+            Err(fault) => {
+                drop(reading);
+                return Err(refusal(fault, text.len() - rest.len()));
+            }
         }
     }
     Ok((reading, rest))
@@ -96,9 +100,11 @@ fn ended(reading: Reading<'_>, left: usize, len: usize) -> Result<Vec<SvModule>,
     requires few { len ≤ 2 ^ 24 }
     ensures { MatchResult result
         (λ modules. (left ≡ 0) × (state_of reading.entry ≡ between modules.items))
-        (λ fault. (fault ≡ SvErr.NotEmitted (len - left)) × ((left ≡ 0) → (modules : List Module) → state_of reading.entry ≢ between modules)) }
+        (λ fault. (fault ≡ SvErr.NotEmitted (len - left))
+        × ((left ≡ 0) → (modules : List Module) → state_of reading.entry ≢ between modules)) }
 {
     if left > 0 {
+        drop(reading);
         return Err(SvErr::NotEmitted {
             at: (len - left) as u32,
         });

@@ -4,28 +4,29 @@ ghost use Rattle.sv_tree.specs.Module.{Module};
 ghost use Rattle.sv_lines.specs.Good.{IsGood};
 ghost use Rattle.sv_lines.specs.State.{between, clock_wanted, inside, start};
 ghost use Rattle.sv_lines.specs.Step.{step};
-ghost use Rattle.sv_reader.specs.Seen.{IsReading};
-ghost use Rattle.sv_reader.specs.SeenDraft.{draft_of};
+ghost use Rattle.sv_draft.specs.SeenDraft.{draft_of};
+ghost use Rattle.sv_draft.specs.Reached.{IsReading};
 ghost use Rattle.sv_reader.specs.SeenState.{IsNext, state_of};
-ghost use Rattle.sv_reader.specs.declared.fault.Fault.TheVariants.{NoMemory};
+ghost use Rattle.sv_draft.specs.declared.fault.Fault.TheVariants.{NoMemory};
 
-use crate::draft::Draft;
-use crate::fault::Fault;
-use crate::lines::opening;
 use crate::modules::ModuleTable;
-use crate::step::draft_step;
-use crate::wanted::{Reached, Wanted};
 use std::alloc::Global;
+use sv_draft::{Draft, Fault, Reached, Wanted, draft_step};
+use sv_pieces::opening;
 use sv_tree::SvModule;
 
 // The module that this line begins, of a name that none has.
 fn begun(alloc: Global, whole: &ModuleTable, line: &[u8]) -> Result<Draft, Fault>
-    ensures { IsReading (λ draft. inside whole.now (draft_of draft) clock_wanted) (step (between whole.now) line.now) result }
+    ensures { IsReading
+        (λ draft. inside whole.now (draft_of draft) clock_wanted)
+        (step (between whole.now) line.now)
+        result }
 {
     let Some(name) = opening(alloc, line) else {
         return Err(Fault::CannotStand);
     };
     if whole.is_taken(&name) {
+        drop(name);
         return Err(Fault::CannotStand);
     }
     Ok(Draft::new(alloc, name))
@@ -95,9 +96,14 @@ impl<'a> Reading<'a> {
             ((modules : List Module) → state_of self.entry ≢ between modules)
             (λ modules. state_of self.entry ≡ between modules.items) }
     {
-        match self.begun {
-            None => Some(self.whole.into_modules()),
-            Some(_) => None,
+        let Reading { whole, begun, .. } = self;
+        match begun {
+            None => Some(whole.into_modules()),
+            Some(draft) => {
+                drop(draft);
+                drop(whole);
+                None
+            }
         }
     }
 }

@@ -9,7 +9,7 @@ use Rattle.core_file.specs.Scope.{Scope, is_among, after}
 use Rattle.core_file.specs.CoreTerm.{core_act}
 use Rattle.core_file.specs.TermChecks.{Taken, term_checks, act_checks, port_checks}
 use Rattle.core_file.specs.ThreadChecks.{registers_set, endpoints_named, taken_with}
-use Rattle.width_check.specs.Taken.{Takes}
+use Rattle.term_check.specs.Taken.{Takes}
 
 pub record Alike (one other : Taken) : Type 0 where
   pub registers : (name : Name) → is_among one.registers name ≡ is_among other.registers name

@@ -14,7 +14,7 @@ use Rattle.core_file.specs.CoreProcess.{register_of}
 use Rattle.core_file.specs.ProcessChecks.{register_checks, registers_checks}
 use Rattle.core_file.specs.declared.error.NameErr.{NameErr}
 use Rattle.channel_classes.proofs.Table.{map_more}
-use Rattle.width_check.specs.Tables.{names_of}
+use Rattle.expr_check.specs.Tables.{names_of}
 use Rattle.width_check.specs.ReadRegisters.{RegistersRead, RegistersFail}
 
 pub record Standing (all : List Register) (read : List CoreReg) (rest : List Register) : Type 0 where

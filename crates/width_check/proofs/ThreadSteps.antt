@@ -30,9 +30,9 @@ use Rattle.core_file.specs.declared.error.NameErr.TheVariants.{NoMemory}
 use Rattle.core_file.proofs.Held.{term_held, tail_held}
 use Rattle.core_file.proofs.ThreadBody.{is_body}
 use Rattle.channel_classes.proofs.Table.{map_more}
-use Rattle.width_check.specs.Read.{TermRead, TermFails}
+use Rattle.term_check.specs.Read.{TermRead, TermFails}
 use Rattle.width_check.specs.ReadThreads.{ThreadRead, ThreadFails, ThreadsRead, ThreadsFail}
-use Rattle.width_check.specs.Taken.{Takes}
+use Rattle.term_check.specs.Taken.{Takes}
 use Rattle.width_check.proofs.Alike.{Alike, same_alike, term_alike, more_alike}
 
 -- One thread.

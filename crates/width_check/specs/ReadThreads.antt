@@ -16,7 +16,7 @@ use Rattle.core_file.specs.TailChecks.{tail_checks}
 use Rattle.core_file.specs.ThreadChecks.{none_taken, registers_set, endpoints_named, threads_checks}
 use Rattle.core_file.specs.declared.error.NameErr.{NameErr}
 use Rattle.core_file.specs.declared.error.NameErr.TheVariants.{NoMemory}
-use Rattle.width_check.specs.Taken.{Takes}
+use Rattle.term_check.specs.Taken.{Takes}
 
 -- a thread after those that took so much, and what all take with it
 pub record ThreadRead (scope : Scope) (taken : Taken) (written : tree.Term) (read : CoreTerm) (more : Taken) : Type 0 where

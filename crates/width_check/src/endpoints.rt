@@ -8,12 +8,12 @@ ghost use Rattle.core_file.specs.CoreProcess.{is_toward, life_of, messages_in, p
 ghost use Rattle.core_file.specs.ProcessChecks.{is_known_class};
 ghost use Rattle.width_check.specs.ReadEndpoints.{EndsWithin, EndpointRead, EndpointFails, EndpointsRead, EndpointsFail};
 
-use crate::tables::PortTable;
 use anvil_lexer::{Name, is_good_name};
 use anvil_tree::{Endpoint, Side};
 use channel_classes::{ClassLife, ClassMessage, Classes};
 use core_file::NameErr;
 use core_term::{CoreLife, CorePort};
+use expr_check::PortTable;
 use indexmap::IndexSet;
 use std::alloc::{AllocError, Global};
 

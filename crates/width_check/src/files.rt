@@ -14,11 +14,11 @@ ghost use Rattle.core_file.specs.ProcessChecks.{checks_of_processes};
 ghost use Rattle.core_file.specs.declared.error.NameErr.TheVariants.{NoMemory};
 
 use crate::process::read_process;
-use crate::room::push;
 use anvil_tree::{File, Item};
 use channel_classes::Classes;
 use core_file::NameErr;
 use core_term::CoreFile;
+use expr_check::push;
 use indexmap::IndexSet;
 use std::alloc::Global;
 

@@ -8,13 +8,13 @@ ghost use Rattle.width_check.specs.ReadProcess.{ClassesPass, ProcessRead, Proces
 
 use crate::endpoints::read_endpoints;
 use crate::registers::read_registers;
-use crate::scope::Known;
 use crate::threads::read_threads;
 use anvil_lexer::{Name, is_good_name};
 use anvil_tree::Proc;
 use channel_classes::Classes;
 use core_file::NameErr;
 use core_term::CoreProc;
+use expr_check::Known;
 use indexmap::IndexSet;
 use std::alloc::Global;
 

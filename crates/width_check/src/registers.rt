@@ -7,16 +7,15 @@ ghost use Rattle.first_check.specs.Check.{first_refusal};
 ghost use Rattle.core_file.specs.CoreProcess.{register_of, reset_of};
 ghost use Rattle.core_file.specs.ProcessChecks.{register_checks, reset_checks};
 ghost use Rattle.core_file.specs.Refused.{is_width};
-ghost use Rattle.width_check.specs.Tables.{names_of, is_register_named};
+ghost use Rattle.expr_check.specs.Tables.{names_of, is_register_named};
 ghost use Rattle.width_check.specs.ReadRegisters.{RegistersRead, RegistersFail};
 
-use crate::nodes::{is_width, read_literal};
-use crate::tables::RegisterTable;
 use anvil_bits::Bits;
 use anvil_lexer::is_good_name;
 use anvil_tree::Register;
 use core_file::NameErr;
 use core_term::CoreReg;
+use expr_check::{RegisterTable, is_width, read_literal};
 use std::alloc::Global;
 
 // What a register shows in cycle 0, by its literal; a register without one resets to 0.

@@ -4,22 +4,18 @@ ghost use Rattle.std.specs.List.{AllByRecursion};
 ghost use Rattle.anvil_tree.specs.Few.{ThreadIsFew};
 ghost use Rattle.anvil_tree.specs.Order.{NeverFall, acts_of_term};
 ghost use Rattle.anvil_tree.specs.View.{term_of};
-ghost use Rattle.width_check.specs.declared.made.Made.{Nothing};
-ghost use Rattle.width_check.specs.Known.{scope_with};
-ghost use Rattle.width_check.specs.Taken.{taken_of};
+ghost use Rattle.expr_check.specs.declared.made.Made.{Nothing};
+ghost use Rattle.expr_check.specs.Known.{scope_with};
+ghost use Rattle.term_check.specs.Taken.{taken_of};
 ghost use Rattle.width_check.specs.ReadThreads.{ThreadRead, ThreadFails, ThreadsRead, ThreadsFail};
 
-use crate::made::Made;
-use crate::room::push;
-use crate::scope::{Known, Scope};
-use crate::tail::check_tail;
-use crate::taken::{Taken, take_term};
-use crate::terms::read_term;
 use anvil_tree::Term;
 use core_file::NameErr;
 use core_term::CoreThread;
+use expr_check::{Known, Made, Scope, push};
 use indexmap::IndexSet;
 use std::alloc::Global;
+use term_check::{Taken, check_tail, read_term, take_term};
 
 // A thread after those that took so much, and what they take with it.
 fn read_thread(

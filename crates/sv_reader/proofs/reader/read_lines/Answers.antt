@@ -2,8 +2,8 @@
 use Rattle.std.proofs.Common.{◌≡◌, ◌⊎◌, ◌-◌, ℕ, List, [], length, None, inl, inr}
 use Rattle.sv_reader.specs.declared.error.SvErr.{SvErr}
 use Rattle.sv_reader.specs.declared.error.SvErr.TheVariants.{NotEmitted, NoMemory}
-use Rattle.sv_reader.specs.declared.fault.Fault.{Fault}
-use Rattle.sv_reader.specs.declared.fault.Fault.TheVariants as fault
+use Rattle.sv_draft.specs.declared.fault.Fault.{Fault}
+use Rattle.sv_draft.specs.declared.fault.Fault.TheVariants as fault
 use Rattle.sv_lines.specs.State.{start}
 use Rattle.sv_lines.specs.Step.{read_on, stopped, step}
 use Rattle.sv_reader.specs.SeenState.{fault_at, state_of}

@@ -1,9 +1,9 @@
 -- The walk of a thread, then its tail, then what it takes.
 use Rattle.std.proofs.Common.{refl}
 use Rattle.anvil_tree.specs.View.{term_of}
-use Rattle.width_check.specs.declared.made.Made.{Nothing}
-use Rattle.width_check.specs.Known.{scope_of, scope_with}
-use Rattle.width_check.specs.Taken.{taken_of}
+use Rattle.expr_check.specs.declared.made.Made.{Nothing}
+use Rattle.expr_check.specs.Known.{scope_of, scope_with}
+use Rattle.term_check.specs.Taken.{taken_of}
 use Rattle.width_check.proofs.ThreadSteps.{body_of, thread_read, walk_fails, tail_fails}
 use Rattle.width_check.proofs.threads.read_thread.Goals as goal
 

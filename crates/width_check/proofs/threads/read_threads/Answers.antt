@@ -1,9 +1,9 @@
 -- One thread more, and one that fails.
 use Rattle.std.proofs.Common.{◌+◌, drop, map, refl}
 use Rattle.anvil_tree.specs.View.{term_of}
-use Rattle.width_check.specs.declared.made.Made.{Nothing}
-use Rattle.width_check.specs.Known.{scope_with}
-use Rattle.width_check.specs.Taken.{taken_of}
+use Rattle.expr_check.specs.declared.made.Made.{Nothing}
+use Rattle.expr_check.specs.Known.{scope_with}
+use Rattle.term_check.specs.Taken.{taken_of}
 use Rattle.width_check.proofs.ThreadSteps.{begins, past, one_fails, next, ends}
 use Rattle.width_check.proofs.threads.read_threads.Goals as goal
 

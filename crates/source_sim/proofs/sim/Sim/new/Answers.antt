@@ -1,7 +1,5 @@
 -- What is kept at the start goes with the bodies of the process, and stands after no rows.
-use Rattle.std.proofs.Common.{◌≡◌, ◌∙◌, sym, subst, ap, length, map}
-use Rattle.core_term.specs.ProcessView.{port_of}
-use Rattle.sim_laws.specs.WidthsFound.{start_of, start_number, start_latest}
+use Rattle.std.proofs.Common.{◌∙◌, ap, length}
 use Rattle.source_sim.proofs.Fills.{ports_few}
 use Rattle.source_sim.proofs.Starts.{Begun, ready_first, bodies_first, registers_first, latests_count_first, latests_wide_first, stands_first}
 use Rattle.source_sim.proofs.sim.Sim.new.Goals as goal

@@ -5,14 +5,25 @@ use Rattle.core_term.specs.ProcessView.{port_of, register_of}
 use Rattle.core_term.specs.History.{history}
 use Rattle.core_term.specs.Outputs.{wires}
 use Rattle.core_term.specs.Rows.{row_fits, cells_shown, registers_shown}
-use Rattle.exchanges.specs.Lives.{lives_of}
 use Rattle.exchanges.proofs.LivesKept.{life_at, lives_count}
 use Rattle.sim_laws.specs.Stands.{State, StandsAfter, shown_cells, next_latests}
 use Rattle.sim_laws.proofs.Counts.{map_count, fit_long, shown_count}
 use Rattle.sim_laws.proofs.StepMade.{Made, stands_made, cells_made, registers_seen, registers_after, ready_after, bodies_after, drives_count, exchanged_count, latests_after_count, latests_after_wide}
-use Rattle.source_sim.specs.Seen.{process_in}
+use Rattle.source_sim.specs.Seen.{process_in, HasRoom}
 use Rattle.source_sim.proofs.Fills.{ports_few}
 use Rattle.source_sim.proofs.sim.Sim.step.Goals as goal
+
+pub step_all-requires-clause-ready : goal.step_all-requires-clause-ready
+step_all-requires-clause-ready c = rw c.as_slice-2.ensures.value c.self.invariant.ready
+
+pub step_all-requires-clause-registers : goal.step_all-requires-clause-registers
+step_all-requires-clause-registers c = rw c.as_slice-2.ensures.value c.self.invariant.registers
+
+pub step_all-requires-clause-cells : goal.step_all-requires-clause-cells
+step_all-requires-clause-cells c = rw c.as_slice.ensures.value (subst (λ s. IsTrue (row_fits (process_in s).ports c.args.row.now)) (sym c.self.view_is) c.requires.row)
+
+pub drive-requires-clause-all : goal.drive-requires-clause-all
+drive-requires-clause-all c = rw c.as_slice-3.ensures.value c.self.invariant.drives
 
 pub drive-requires-clause-fit : goal.drive-requires-clause-fit
 drive-requires-clause-fit c = rw c.as_slice-3.ensures.value (ports_few c.self.inside.proc.now.name c.self.inside.proc.now.ports.items c.self.inside.proc.now.regs.items c.self.inside.proc.now.threads.items c.self.inside.proc.now.sized).1
@@ -37,6 +48,14 @@ pub show-requires-clause-drives : goal.show-requires-clause-drives
 show-requires-clause-drives c =
     let count = rw c.as_slice-3.ensures.value at c.drive.ensures.all in
     rw (c.as_slice-7.ensures.value, c.as_slice-8.ensures.value) count
+
+pub show-requires-clause-latests : goal.show-requires-clause-latests
+show-requires-clause-latests c = rw (c.as_slice-7.ensures.value, c.as_slice-9.ensures.value) c.self.invariant.latests
+
+pub show-requires-clause-cells : goal.show-requires-clause-cells
+show-requires-clause-cells c =
+    let room = subst (λ s. HasRoom (process_in s) c.args.out.now) (sym c.self.view_is) c.requires.room in
+    rw c.as_slice-7.ensures.value (room.0 ∙ map_count port_of c.self.inside.proc.now.ports.items)
 
 pub pass-requires-clause-drives : goal.pass-requires-clause-drives
 pass-requires-clause-drives c =

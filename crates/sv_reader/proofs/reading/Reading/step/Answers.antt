@@ -2,7 +2,8 @@
 use Rattle.sv_lines.specs.Good.{IsGood}
 use Rattle.sv_lines.specs.State.{inside}
 use Rattle.sv_lines.proofs.kept.Finishing.{finished_of}
-use Rattle.sv_reader.specs.SeenDraft.{draft_of, wanted_of}
+use Rattle.sv_draft.specs.SeenDraft.{draft_of}
+use Rattle.sv_draft.specs.Reached.{wanted_of}
 use Rattle.sv_reader.proofs.reading.Reading.step.Goals as goal
 
 pub end-requires : goal.end-requires

@@ -1,0 +1,3 @@
+-- How the types of this crate are seen.
+pub mod Runs
+pub mod Seen
