@@ -1,5 +1,5 @@
 -- An act that is whole goes on by its bound variable and the frames below that.
-use Rattle.std.proofs.Common.{◌≡◌, List, ◌∷◌, Option, refl}
+use Rattle.std.proofs.Common.{◌≡◌, List, ◌∷◌, Option, refl, sym}
 use Rattle.anvil_lexer.specs.declared.token.TokenKind.{TokenKind}
 use Rattle.anvil_lexer.specs.declared.token.TokenKind.TheVariants.{Mark}
 use Rattle.anvil_lexer.specs.declared.token.Mark.TheVariants as mark
@@ -11,14 +11,18 @@ use Rattle.anvil_grammar.specs.State.{Frame}
 use Rattle.anvil_grammar.specs.Step.{act_step, term_ends}
 use Rattle.parse_threads.specs.SeenThread.{bound_of, unbound, joined_frame, joined_step, linked}
 
-pub act_joined : (stack : List Frame) (act : Act) (kind : TokenKind) → act_step stack act kind ≡ joined_step (bound_of stack) (unbound stack) act kind
-act_joined (states.binding name ∷ stack) act (Mark mark.Chain) = refl
-act_joined (states.binding name ∷ stack) act (Mark mark.Semicolon) = refl
-act_joined (states.binding name ∷ stack) act kind = refl
-act_joined stack act (Mark mark.Chain) = refl
-act_joined stack act (Mark mark.Semicolon) = refl
-act_joined stack act (Mark mark.CloseBrace) = refl
-act_joined stack act kind = refl
+goes_on_joined : (stack : List Frame) (act : Act) (kind : TokenKind) → act_step stack act kind ≡ joined_step (bound_of stack) (unbound stack) act kind
+goes_on_joined (states.binding name ∷ stack) act (Mark mark.Chain) = refl
+goes_on_joined (states.binding name ∷ stack) act (Mark mark.Semicolon) = refl
+goes_on_joined (states.binding name ∷ stack) act kind = refl
+goes_on_joined stack act (Mark mark.Chain) = refl
+goes_on_joined stack act (Mark mark.Semicolon) = refl
+goes_on_joined stack act (Mark mark.CloseBrace) = refl
+goes_on_joined stack act kind = refl
+
+pub act_joined : (stack : List Frame) (bound : Option Name) (below : List Frame) (act : Act) (kind : TokenKind) → bound ≡ bound_of stack → below ≡ unbound stack
+    → joined_step bound below act kind ≡ act_step stack act kind
+act_joined stack bound below act kind found left = rw found (rw left (sym (goes_on_joined stack act kind)))
 
 -- a term that is whole is the end of the act that waits for it
 pub link_ends : (joint : Joint) (bound : Option Name) (act : Act) (stack : List Frame) (term : Term)

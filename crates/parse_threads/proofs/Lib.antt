@@ -1,5 +1,7 @@
--- Stacks of frames, operands and their frames, acts and their bound variables, how acts and groups begin.
+-- Stacks of frames, acts and their bound variables, how acts begin, names and marks that are wanted, and expressions inside threads.
 pub mod Stacks
-pub mod Settling
 pub mod Joining
 pub mod Openings
+pub mod Wanted
+pub mod Within
+pub mod Values

@@ -1,22 +1,21 @@
 //! Reads the acts and terms of a thread token by token.
-ghost use Rattle.std.specs.Prelude.{◌≡◌, ◌≢◌, ◌⊎◌, ◌∷◌, false, MatchResult};
+ghost use Rattle.std.specs.Prelude.{◌≡◌, ◌≢◌, ◌∷◌, List, MatchResult};
 ghost use Rattle.anvil_grammar.specs.State as states;
 ghost use Rattle.anvil_tree.specs.Tree as tree;
 ghost use Rattle.anvil_tree.specs.View.{act_of, expr_of, term_of};
-ghost use Rattle.anvil_grammar.specs.Step.{act_step, expression_step, moves, term_ends};
-ghost use Rattle.parse_threads.specs.Seen.{IsReached, label_of, reached_of};
-ghost use Rattle.parse_threads.specs.SeenThread.{is_link, joined_step, link_frame_of, linked, operand_frame_of, stack_of, term_frame_of, thread_of, value_frame_of};
+ghost use Rattle.anvil_grammar.specs.Step.{act_step, expression_step, moves, term_ends, thread_step};
+ghost use Rattle.parse_expressions.specs.Seen.{nodes_of};
+ghost use Rattle.parse_threads.specs.Seen.{begun_of};
+ghost use Rattle.parse_threads.specs.SeenThread.{IsNext, joined_step, link_frame_of, linked, next_of, seen_at, stack_of, term_frame_of, value_frame_of};
 
-use crate::expect::await_mark;
 use crate::label::Label;
-use crate::nodes::binary;
-use crate::room::{boxed, boxed_pair, refused};
-use crate::stack::{Frame, Joint, Link, OperandFrame, TermFrame, ValueFrame};
-use crate::step::{Begun, Reached};
-use crate::thread::{ExprState, TermState, Thread, ThreadState, ThreadStep};
-use anvil_grammar::ParseErr;
+use crate::stack::{Frame, Joint, Link, Stack, TermFrame};
+use crate::step::{Begin, Begun};
+use crate::thread::{Next, NextStep, TermState, ThreadState, ValueFrame, waits};
+use anvil_grammar::{Counted, ParseErr};
 use anvil_lexer::{Mark, Name, Token, TokenKind};
 use anvil_tree::{Act, ActKind, Expr, Term};
+use parse_expressions::{Expression, Read, boxed, boxed_pair, first_of, is_mark, refuse, refused};
 use std::alloc::Global;
 
 // An act with its joint and the term behind it.
@@ -87,50 +86,30 @@ fn block(alloc: Global, at: u32, term: Term) -> Result<Act, ParseErr>
     }
 }
 
-/// Lets a value go: the token cannot stand behind it.
-pub fn refuse<T: Drop>(_value: T, token: &Token) -> ThreadStep
-    ensures { MatchResult result (λ _. ⊥) (λ refusal. refusal ≡ ParseErr.Unexpected token.now.at) }
-{
-    Err(ParseErr::Unexpected { at: token.at })
-}
-
 // A term is whole, and what waits for it goes on.
 #[tactic(auto, using(crate::proofs::Joining::link_ends))]
-fn term_ends(alloc: Global, thread: &mut Thread, term: Term, token: &Token) -> ThreadStep
-    ensures { IsReached (thread_of thread.new) term_of token.now
-        (term_ends (stack_of thread.old.stack) (term_of term)) result }
+fn term_ends(alloc: Global, stack: &mut Stack, term: Term, token: &Token) -> NextStep
+    ensures { IsNext (stack_of stack.new) token.now (term_ends (stack_of stack.old) (term_of term)) result }
 {
     let mut term = term;
-    while let Some(link) = thread.stack.pop_link() {
-        match linked(alloc, link, term) {
-            Ok(whole) => term = whole,
-            Err(refusal) => return Err(refusal),
+    while let Some(frame) = stack.pop() {
+        match frame {
+            Frame::Link(link) => match linked(alloc, link, term) {
+                Ok(whole) => term = whole,
+                Err(refusal) => return Err(refusal),
+            },
+            Frame::Term(part) => return part_ends(alloc, part, term),
+            Frame::Binding(name) => return refuse((name, term), token),
         }
     }
-    side_ends(alloc, thread, term, token)
-}
-
-// A term is whole that no act stands before.
-fn side_ends(alloc: Global, thread: &mut Thread, term: Term, token: &Token) -> ThreadStep
-    requires { is_link (stack_of thread.old.stack) ≡ false }
-    ensures { IsReached (thread_of thread.new) term_of token.now
-        (term_ends (stack_of thread.old.stack) (term_of term)) result }
-{
-    match thread.stack.pop() {
-        None => Ok(Reached::Finished(term)),
-        Some(Frame::Term(part)) => part_ends(alloc, thread, part, term),
-        Some(Frame::Operand(part)) => refuse((part, term), token),
-        Some(Frame::Value(act)) => refuse((act, term), token),
-        Some(Frame::Link(link)) => refuse((link, term), token),
-        Some(Frame::Binding(name)) => refuse((name, term), token),
-    }
+    Ok(Next::Whole(term))
 }
 
 // The term that a part of an act waits for is whole.
-fn part_ends(alloc: Global, thread: &mut Thread, part: TermFrame, term: Term) -> ThreadStep
+fn part_ends(alloc: Global, part: TermFrame, term: Term) -> NextStep
     ensures { MatchResult result
-        (λ step. reached_of (thread_of thread.new) term_of step
-        ≡ term_ends (term_frame_of part ∷ stack_of thread.old.stack) (term_of term))
+        (λ next. (stack : List states.Frame)
+        → next_of stack next ≡ term_ends (term_frame_of part ∷ stack) (term_of term))
         (λ refusal. refusal ≡ ParseErr.NoMemory) }
 {
     let act = match part {
@@ -140,7 +119,7 @@ fn part_ends(alloc: Global, thread: &mut Thread, part: TermFrame, term: Term) ->
                 condition,
                 first: term,
             };
-            return thread.goes(Begun::Nothing, ThreadState::Term(state));
+            return Ok(Next::Onward(Begun::Nothing, ThreadState::Term(state)));
         }
         TermFrame::SecondSide {
             at,
@@ -150,35 +129,41 @@ fn part_ends(alloc: Global, thread: &mut Thread, part: TermFrame, term: Term) ->
         TermFrame::Blocking { at } => block(alloc, at, term),
     };
     match act {
-        Ok(act) => thread.goes(Begun::Nothing, ThreadState::Term(TermState::AfterAct(act))),
+        Ok(act) => Ok(after(act)),
         Err(refusal) => Err(refusal),
     }
 }
 
-/// An act is whole, and the token follows it.
-#[tactic(auto, using(crate::proofs::Joining::act_joined))]
-pub fn act_step(alloc: Global, thread: &mut Thread, act: Act, token: &Token) -> ThreadStep
-    ensures { IsReached (thread_of thread.new) term_of token.now
-        (act_step (stack_of thread.old.stack) (act_of act) token.now.kind) result }
+// An act is whole, and a token is to follow it.
+fn after(act: Act) -> Next
+    ensures { (stack : List states.Frame) → next_of stack result ≡ moves stack (states.after_act (act_of act)) }
 {
-    let bound = thread.stack.pop_bound();
-    joined_step(alloc, thread, bound, act, token)
+    Next::Onward(Begun::Nothing, ThreadState::Term(TermState::AfterAct(act)))
+}
+
+/// An act is whole, and the token follows it.
+pub fn act_step(alloc: Global, stack: &mut Stack, act: Act, token: &Token) -> NextStep
+    ensures { IsNext (stack_of stack.new) token.now
+        (act_step (stack_of stack.old) (act_of act) token.now.kind) result }
+{
+    let bound = stack.pop_bound();
+    joined_step(alloc, stack, bound, act, token)
 }
 
 // An act is whole, with the variable that its value is bound to.
 fn joined_step(
     alloc: Global,
-    thread: &mut Thread,
+    stack: &mut Stack,
     bound: Option<Name>,
     act: Act,
     token: &Token,
-) -> ThreadStep
-    ensures { IsReached (thread_of thread.new) term_of token.now
-        (joined_step bound (stack_of thread.old.stack) (act_of act) token.now.kind) result }
+) -> NextStep
+    ensures { IsNext (stack_of stack.new) token.now
+        (joined_step bound (stack_of stack.old) (act_of act) token.now.kind) result }
 {
     match &token.kind {
         TokenKind::Mark(Mark::Chain) => awaits_term(
-            thread,
+            stack,
             Link {
                 joint: Joint::Follow,
                 bound,
@@ -186,7 +171,7 @@ fn joined_step(
             },
         ),
         TokenKind::Mark(Mark::Semicolon) => awaits_term(
-            thread,
+            stack,
             Link {
                 joint: Joint::Beside,
                 bound,
@@ -194,7 +179,7 @@ fn joined_step(
             },
         ),
         TokenKind::Mark(Mark::CloseBrace) => match bound {
-            None => term_ends(alloc, thread, Term::One(act), token),
+            None => term_ends(alloc, stack, Term::One(act), token),
             Some(name) => refuse((name, act), token),
         },
         _ => refuse((bound, act), token),
@@ -202,159 +187,108 @@ fn joined_step(
 }
 
 // An act waits for the term behind it.
-fn awaits_term(thread: &mut Thread, link: Link) -> ThreadStep
+fn awaits_term(stack: &mut Stack, link: Link) -> NextStep
     ensures { MatchResult result
-        (λ step. reached_of (thread_of thread.new) term_of step
-        ≡ moves (link_frame_of link ∷ stack_of thread.old.stack) states.term_wanted)
+        (λ next. next_of (stack_of stack.new) next ≡ moves (link_frame_of link ∷ stack_of stack.old) states.term_wanted)
         (λ refusal. refusal ≡ ParseErr.NoMemory) }
 {
-    thread.waits(
-        Begun::Nothing,
-        Frame::Link(link),
-        ThreadState::Term(TermState::Wanted),
-    )
+    waits(stack, Begun::Nothing, Frame::Link(link), TermState::Wanted)
 }
 
-/// An expression is whole, and the frames that bind it more strongly than the token have taken it.
-pub fn expression_step(alloc: Global, thread: &mut Thread, expr: Expr, token: &Token) -> ThreadStep
-    ensures { IsReached (thread_of thread.new) term_of token.now
-        (expression_step (stack_of thread.old.stack) (expr_of expr) token.now.kind) result }
+// The node that begins, where one does.
+fn node_at(node: Option<u32>) -> Begun
+    ensures { begun_of result ≡ nodes_of node }
 {
-    match thread.stack.pop() {
-        None => refuse(expr, token),
-        Some(Frame::Operand(part)) => part_step(alloc, thread, part, expr, token),
-        Some(Frame::Value(act)) => value_step(alloc, thread, act, expr, token),
-        Some(Frame::Term(part)) => refuse((part, expr), token),
-        Some(Frame::Link(link)) => refuse((link, expr), token),
-        Some(Frame::Binding(name)) => refuse((name, expr), token),
+    match node {
+        Some(at) => {
+            let kind = Counted::Expr;
+            Begun::One(Begin { kind, at })
+        }
+        None => Begun::Nothing,
     }
 }
 
-// The expression that a part of another waits for is whole.
-fn part_step(
+/// Reads on in the expression that an act waits for.
+pub fn value_step(
     alloc: Global,
-    thread: &mut Thread,
-    part: OperandFrame,
-    expr: Expr,
+    stack: &mut Stack,
+    act: ValueFrame,
+    expression: Expression,
     token: &Token,
-) -> ThreadStep
-    ensures { IsReached (thread_of thread.new) term_of token.now
-        (expression_step (operand_frame_of part ∷ stack_of thread.old.stack) (expr_of expr) token.now.kind) result }
+) -> NextStep
+    ensures { IsNext (stack_of stack.new) token.now
+        (thread_step (seen_at (stack_of stack.old) (ThreadState.Value act expression)) token.now) result }
 {
-    match part {
-        OperandFrame::Grouping => closes(thread, expr, token),
-        OperandFrame::Calling { operator, at } => {
-            let frame = OperandFrame::CallingSecond {
-                operator,
-                at,
-                first: expr,
-            };
-            awaits_operand(thread, frame, token, Mark::Comma)
+    let mut expression = expression;
+    match expression.step(alloc, token) {
+        Ok(Read::Onward(node)) => {
+            let state = ThreadState::Value(act, expression);
+            Ok(Next::Onward(node_at(node), state))
         }
-        OperandFrame::CallingSecond {
-            operator,
-            at,
-            first,
-        } => match binary(alloc, at, operator, first, expr) {
-            Ok(whole) => closes(thread, whole, token),
-            Err(refusal) => Err(refusal),
-        },
-        OperandFrame::Choosing { at, condition } => {
-            let frame = OperandFrame::ChoosingSecond {
-                at,
-                condition,
-                first: expr,
-            };
-            awaits_operand(thread, frame, token, Mark::Colon)
+        Ok(Read::Whole(expr)) => {
+            let expr = first_of(expr, expression);
+            value_ends(alloc, stack, act, expr, token)
         }
-        OperandFrame::Inverting { .. } => refuse(expr, token),
-        OperandFrame::Operating { left, .. } => refuse((left, expr), token),
-        OperandFrame::ChoosingSecond {
-            condition,
-            first,
-            ..
-        } => refuse((condition, (first, expr)), token),
+        Err(refusal) => refused((act, expression), refusal),
     }
 }
 
-// `)` closes an operand.
-fn closes(thread: &mut Thread, operand: Expr, token: &Token) -> ThreadStep
-    ensures { MatchResult result
-        (λ step. (token.now.kind ≡ TokenKind.Mark Mark.CloseParen)
-        × (reached_of (thread_of thread.new) term_of step
-        ≡ moves (stack_of thread.old.stack) (states.after_operand (expr_of operand))))
-        (λ refusal. (token.now.kind ≢ TokenKind.Mark Mark.CloseParen) × (refusal ≡ ParseErr.Unexpected token.now.at)) }
-{
-    let state = ThreadState::Expr(ExprState::AfterOperand(operand));
-    await_mark(token, Mark::CloseParen, &mut thread.state, state)
-}
-
-// A part of an expression waits for an expression behind the mark.
-fn awaits_operand(thread: &mut Thread, frame: OperandFrame, token: &Token, mark: Mark) -> ThreadStep
-    ensures { MatchResult result
-        (λ step. (token.now.kind ≡ TokenKind.Mark mark)
-        × (reached_of (thread_of thread.new) term_of step
-        ≡ moves (operand_frame_of frame ∷ stack_of thread.old.stack) states.operand_wanted))
-        (λ refusal. (refusal ≡ ParseErr.NoMemory)
-        ⊎ ((token.now.kind ≢ TokenKind.Mark mark) × (refusal ≡ ParseErr.Unexpected token.now.at))) }
-{
-    thread.waits_behind(
-        token,
-        mark,
-        Frame::Operand(frame),
-        ThreadState::Expr(ExprState::OperandWanted),
-    )
-}
-
-// The expression of an act is whole.
-fn value_step(
+// The expression of an act is whole, and the token follows it.
+fn value_ends(
     alloc: Global,
-    thread: &mut Thread,
+    stack: &mut Stack,
     act: ValueFrame,
     expr: Expr,
     token: &Token,
-) -> ThreadStep
-    ensures { IsReached (thread_of thread.new) term_of token.now
-        (expression_step (value_frame_of act ∷ stack_of thread.old.stack) (expr_of expr) token.now.kind) result }
+) -> NextStep
+    ensures { IsNext (stack_of stack.new) token.now
+        (expression_step (value_frame_of act ∷ stack_of stack.old) (expr_of expr) token.now.kind) result }
 {
     match act {
-        ValueFrame::Setting { at, register } => act_step(
-            alloc,
-            thread,
-            set(at, register, expr),
-            token,
-        ),
+        ValueFrame::Setting { at, register } => {
+            act_step(alloc, stack, set(at, register, expr), token)
+        }
         ValueFrame::Sending {
             at,
             endpoint,
             message,
-        } => {
-            let state = ThreadState::Term(TermState::AfterAct(send(at, endpoint, message, expr)));
-            await_mark(token, Mark::CloseParen, &mut thread.state, state)
-        }
-        ValueFrame::Deciding { at } => decides(thread, at, expr, token),
+        } => closes(send(at, endpoint, message, expr), token),
+        ValueFrame::Deciding { at } => decides(stack, at, expr, token),
         ValueFrame::Evaluating => {
             let act = Act {
                 at: expr.at,
                 kind: ActKind::Pure(expr),
             };
-            act_step(alloc, thread, act, token)
+            act_step(alloc, stack, act, token)
         }
     }
 }
 
-// The condition of an `if` is whole.
-fn decides(thread: &mut Thread, at: u32, condition: Expr, token: &Token) -> ThreadStep
-    ensures { IsReached (thread_of thread.new) term_of token.now
-        (expression_step (states.deciding at ∷ stack_of thread.old.stack) (expr_of condition) token.now.kind) result }
+// `)` closes an act.
+fn closes(act: Act, token: &Token) -> NextStep
+    ensures { MatchResult result
+        (λ next. (token.now.kind ≡ TokenKind.Mark Mark.CloseParen)
+        × ((stack : List states.Frame) → next_of stack next ≡ moves stack (states.after_act (act_of act))))
+        (λ refusal. (token.now.kind ≢ TokenKind.Mark Mark.CloseParen) × (refusal ≡ ParseErr.Unexpected token.now.at)) }
 {
-    let frame = Frame::Term(TermFrame::FirstSide { at, condition });
-    thread.waits_behind(
-        token,
-        Mark::OpenBrace,
-        frame,
-        ThreadState::Term(TermState::Wanted),
-    )
+    if is_mark(token, Mark::CloseParen) {
+        Ok(after(act))
+    } else {
+        refuse(act, token)
+    }
+}
+
+// The condition of an `if` is whole.
+fn decides(stack: &mut Stack, at: u32, condition: Expr, token: &Token) -> NextStep
+    ensures { IsNext (stack_of stack.new) token.now
+        (expression_step (states.deciding at ∷ stack_of stack.old) (expr_of condition) token.now.kind) result }
+{
+    if is_mark(token, Mark::OpenBrace) {
+        let frame = Frame::Term(TermFrame::FirstSide { at, condition });
+        waits(stack, Begun::Nothing, frame, TermState::Wanted)
+    } else {
+        refuse(condition, token)
+    }
 }
 
 // `set r := e`

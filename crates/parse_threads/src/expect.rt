@@ -8,19 +8,6 @@ use anvil_grammar::ParseErr;
 use anvil_lexer::{Keyword, Mark, Token, TokenKind};
 use anvil_tree::Side;
 
-/// The token is the mark.
-pub fn expect(token: &Token, mark: Mark) -> Result<(), ParseErr>
-    ensures { MatchResult result
-        (λ _. token.now.kind ≡ TokenKind.Mark mark)
-        (λ refusal. (token.now.kind ≢ TokenKind.Mark mark) × (refusal ≡ ParseErr.Unexpected token.now.at)) }
-{
-    if is_mark(token, mark) {
-        Ok(())
-    } else {
-        Err(ParseErr::Unexpected { at: token.at })
-    }
-}
-
 /// Goes on at the next state where the token is the mark.
 pub fn await_mark<S: Drop, R: Drop>(
     token: &Token,
@@ -66,22 +53,12 @@ pub fn side(token: &Token) -> Option<Side>
     }
 }
 
-/// Whether the token is the mark.
-pub fn is_mark(token: &Token, mark: Mark) -> bool
-    ensures { MatchBool result (token.now.kind ≡ TokenKind.Mark mark) (token.now.kind ≢ TokenKind.Mark mark) }
-{
-    match &token.kind {
-        TokenKind::Mark(found) => *found == mark,
-        _ => false,
-    }
-}
-
 /// Whether the token is the keyword.
 pub fn is_key(token: &Token, key: Keyword) -> bool
     ensures { MatchBool result (token.now.kind ≡ TokenKind.Key key) (token.now.kind ≢ TokenKind.Key key) }
 {
     match &token.kind {
-        TokenKind::Key(found) => *found == key,
+        TokenKind::Key(found) if *found == key => true,
         _ => false,
     }
 }

@@ -1,25 +1,29 @@
 //! Reads on inside an act, from behind its keyword to its expression or its end.
-ghost use Rattle.std.specs.Prelude.{◌≡◌, ◌⊎◌, MatchResult};
+ghost use Rattle.std.specs.Prelude.{◌≡◌, List, MatchResult};
 ghost use Rattle.anvil_tree.specs.Tree as tree;
-ghost use Rattle.anvil_tree.specs.View.{act_of, term_of};
 ghost use Rattle.anvil_grammar.specs.State as states;
-ghost use Rattle.anvil_grammar.specs.Step.{inner_step, thread_step_at};
-ghost use Rattle.parse_threads.specs.Seen.{IsReached, label_of};
-ghost use Rattle.parse_threads.specs.SeenThread.{act_state_of, stack_of, thread_of};
+ghost use Rattle.anvil_grammar.specs.Step.{quietly, thread_step_at};
+ghost use Rattle.parse_threads.specs.Seen.{label_of};
+ghost use Rattle.anvil_tree.specs.View.{act_of};
+ghost use Rattle.parse_threads.specs.SeenThread.{IsNext, mark_of, mark_state_of, marked, name_state_of, named, next_of, seen_at, stack_of};
 
-use crate::expect::{await_mark, word};
+use crate::expect::word;
 use crate::label::Label;
-use crate::stack::{Frame, ValueFrame};
+use crate::stack::{Frame, Stack, TermFrame};
 use crate::step::Begun;
-use crate::thread::{ActState, ExprState, TermState, Thread, ThreadState, ThreadStep};
+use crate::thread::{
+    MarkWanted, NameWanted, Next, NextStep, TermState, ThreadState, ValueFrame, awaits_value, waits,
+};
 use anvil_grammar::ParseErr;
 use anvil_lexer::{Mark, Token, TokenKind};
 use anvil_tree::{Act, ActKind};
+use parse_expressions::{is_mark, refuse, refused};
+use std::alloc::Global;
 
-// The number of a `cycle`.
-fn cycle_step(thread: &mut Thread, at: u32, token: &Token) -> ThreadStep
-    ensures { IsReached (thread_of thread.new) term_of token.now
-        (inner_step (stack_of thread.old.stack) (states.cycle_count at) token.now token.now.kind) result }
+/// The number of a `cycle`.
+pub fn cycle_step(at: u32, token: &Token) -> NextStep
+    ensures { (stack : List states.Frame)
+        → IsNext stack token.now (thread_step_at stack (states.cycle_count at) token.now) result }
 {
     match &token.kind {
         TokenKind::Number(count) => {
@@ -30,50 +34,10 @@ fn cycle_step(thread: &mut Thread, at: u32, token: &Token) -> ThreadStep
                     count_at: token.at,
                 },
             };
-            thread.goes(Begun::Nothing, ThreadState::Term(TermState::AfterAct(act)))
+            Ok(Next::Onward(Begun::Nothing, ThreadState::Term(TermState::AfterAct(act))))
         }
         _ => Err(ParseErr::Unexpected { at: token.at }),
     }
-}
-
-// `:=` behind the register of a `set`.
-fn assign_step(thread: &mut Thread, at: u32, register: Label, token: &Token) -> ThreadStep
-    ensures { IsReached (thread_of thread.new) term_of token.now
-        (inner_step (stack_of thread.old.stack) (states.set_assign at (label_of register))
-        token.now token.now.kind) result }
-{
-    let frame = Frame::Value(ValueFrame::Setting { at, register });
-    thread.waits_behind(
-        token,
-        Mark::Assign,
-        frame,
-        ThreadState::Expr(ExprState::OperandWanted),
-    )
-}
-
-// `(` behind the message of a `send`.
-fn sending_step(
-    thread: &mut Thread,
-    at: u32,
-    endpoint: Label,
-    message: Label,
-    token: &Token,
-) -> ThreadStep
-    ensures { IsReached (thread_of thread.new) term_of token.now
-        (inner_step (stack_of thread.old.stack) (states.send_opening at (label_of endpoint) (label_of message))
-        token.now token.now.kind) result }
-{
-    let frame = Frame::Value(ValueFrame::Sending {
-        at,
-        endpoint,
-        message,
-    });
-    thread.waits_behind(
-        token,
-        Mark::OpenParen,
-        frame,
-        ThreadState::Expr(ExprState::OperandWanted),
-    )
 }
 
 // The act `recv e.m`.
@@ -99,107 +63,118 @@ fn receive(at: u32, endpoint: Label, message: Label) -> Act
     }
 }
 
-// The register of a `set`.
-fn register_step(thread: &mut Thread, at: u32, token: &Token) -> ThreadStep
-    ensures { IsReached (thread_of thread.new) term_of token.now
-        (inner_step (stack_of thread.old.stack) (states.set_register at) token.now token.now.kind) result }
+// Where a name leads that was wanted.
+fn named(wanted: NameWanted, label: Label) -> ThreadState
+    ensures { (stack : List states.Frame) → quietly (seen_at stack result) ≡ named stack wanted (label_of label) }
 {
-    match word(token) {
-        Ok(register) => thread.goes(
-            Begun::Nothing,
-            ThreadState::Act(ActState::SetAssign { at, register }),
-        ),
-        Err(refusal) => Err(refusal),
-    }
-}
-
-// The endpoint of a `send`.
-fn sender_step(thread: &mut Thread, at: u32, token: &Token) -> ThreadStep
-    ensures { IsReached (thread_of thread.new) term_of token.now
-        (inner_step (stack_of thread.old.stack) (states.send_endpoint at) token.now token.now.kind) result }
-{
-    match word(token) {
-        Ok(endpoint) => thread.goes(
-            Begun::Nothing,
-            ThreadState::Act(ActState::SendDot { at, endpoint }),
-        ),
-        Err(refusal) => Err(refusal),
-    }
-}
-
-// The message of a `send`.
-fn sent_step(thread: &mut Thread, at: u32, endpoint: Label, token: &Token) -> ThreadStep
-    ensures { IsReached (thread_of thread.new) term_of token.now
-        (inner_step (stack_of thread.old.stack) (states.send_message at (label_of endpoint))
-        token.now token.now.kind) result }
-{
-    match word(token) {
-        Ok(message) => {
-            let state = ActState::SendOpening {
+    match wanted {
+        NameWanted::Variable => ThreadState::Mark(MarkWanted::Equals(label.name)),
+        NameWanted::Register { at } => {
+            let register = label;
+            ThreadState::Mark(MarkWanted::Assign { at, register })
+        }
+        NameWanted::SendEndpoint { at } => {
+            let endpoint = label;
+            ThreadState::Mark(MarkWanted::SendDot { at, endpoint })
+        }
+        NameWanted::SendMessage { at, endpoint } => {
+            let message = label;
+            ThreadState::Mark(MarkWanted::SendOpening {
                 at,
                 endpoint,
                 message,
-            };
-            thread.goes(Begun::Nothing, ThreadState::Act(state))
+            })
         }
-        Err(refusal) => Err(refusal),
+        NameWanted::ReceiveEndpoint { at } => {
+            let endpoint = label;
+            ThreadState::Mark(MarkWanted::ReceiveDot { at, endpoint })
+        }
+        NameWanted::ReceiveMessage { at, endpoint } => {
+            ThreadState::Term(TermState::AfterAct(receive(at, endpoint, label)))
+        }
     }
 }
 
-// The endpoint of a `recv`.
-fn receiver_step(thread: &mut Thread, at: u32, token: &Token) -> ThreadStep
-    ensures { IsReached (thread_of thread.new) term_of token.now
-        (inner_step (stack_of thread.old.stack) (states.receive_endpoint at) token.now token.now.kind) result }
+/// A name that is wanted.
+pub fn name_step(wanted: NameWanted, token: &Token) -> NextStep
+    ensures { (stack : List states.Frame)
+        → IsNext stack token.now (thread_step_at stack (name_state_of wanted) token.now) result }
 {
     match word(token) {
-        Ok(endpoint) => thread.goes(
-            Begun::Nothing,
-            ThreadState::Act(ActState::ReceiveDot { at, endpoint }),
-        ),
-        Err(refusal) => Err(refusal),
+        Ok(label) => Ok(Next::Onward(Begun::Nothing, named(wanted, label))),
+        Err(refusal) => refused(wanted, refusal),
     }
 }
 
-// The message of a `recv`.
-fn received_step(thread: &mut Thread, at: u32, endpoint: Label, token: &Token) -> ThreadStep
-    ensures { IsReached (thread_of thread.new) term_of token.now
-        (inner_step (stack_of thread.old.stack) (states.receive_message at (label_of endpoint))
-        token.now token.now.kind) result }
+// The mark that is wanted.
+fn mark_of(wanted: &MarkWanted) -> Mark
+    ensures { result ≡ mark_of wanted.now }
 {
-    match word(token) {
-        Ok(message) => {
-            let act = receive(at, endpoint, message);
-            thread.goes(Begun::Nothing, ThreadState::Term(TermState::AfterAct(act)))
-        }
-        Err(refusal) => Err(refusal),
+    match wanted {
+        MarkWanted::Equals(_) => Mark::Equals,
+        MarkWanted::Assign { .. } => Mark::Assign,
+        MarkWanted::SendDot { .. } | MarkWanted::ReceiveDot { .. } => Mark::Dot,
+        MarkWanted::SendOpening { .. } => Mark::OpenParen,
+        MarkWanted::ElseOpening { .. } => Mark::OpenBrace,
     }
 }
 
-/// Reads on in an act, behind its keyword.
-pub fn in_act_step(thread: &mut Thread, state: ActState, token: &Token) -> ThreadStep
-    ensures { IsReached (thread_of thread.new) term_of token.now
-        (thread_step_at (stack_of thread.old.stack) (act_state_of state) token.now) result }
+// Where a mark leads that was wanted.
+fn marked(alloc: Global, stack: &mut Stack, wanted: MarkWanted) -> NextStep
+    ensures { MatchResult result
+        (λ next. next_of (stack_of stack.new) next ≡ marked (stack_of stack.old) wanted)
+        (λ refusal. refusal ≡ ParseErr.NoMemory) }
 {
-    match state {
-        ActState::CycleCount { at } => cycle_step(thread, at, token),
-        ActState::SetRegister { at } => register_step(thread, at, token),
-        ActState::SetAssign { at, register } => assign_step(thread, at, register, token),
-        ActState::SendEndpoint { at } => sender_step(thread, at, token),
-        ActState::SendDot { at, endpoint } => {
-            let state = ThreadState::Act(ActState::SendMessage { at, endpoint });
-            await_mark(token, Mark::Dot, &mut thread.state, state)
+    let state = match wanted {
+        MarkWanted::Equals(name) => {
+            let frame = Frame::Binding(name);
+            return waits(stack, Begun::Nothing, frame, TermState::ActWanted);
         }
-        ActState::SendMessage { at, endpoint } => sent_step(thread, at, endpoint, token),
-        ActState::SendOpening {
+        MarkWanted::ElseOpening {
+            at,
+            condition,
+            first,
+        } => {
+            let frame = Frame::Term(TermFrame::SecondSide {
+                at,
+                condition,
+                first,
+            });
+            return waits(stack, Begun::Nothing, frame, TermState::Wanted);
+        }
+        MarkWanted::Assign { at, register } => {
+            awaits_value(alloc, ValueFrame::Setting { at, register })
+        }
+        MarkWanted::SendOpening {
             at,
             endpoint,
             message,
-        } => sending_step(thread, at, endpoint, message, token),
-        ActState::ReceiveEndpoint { at } => receiver_step(thread, at, token),
-        ActState::ReceiveDot { at, endpoint } => {
-            let state = ThreadState::Act(ActState::ReceiveMessage { at, endpoint });
-            await_mark(token, Mark::Dot, &mut thread.state, state)
+        } => awaits_value(
+            alloc,
+            ValueFrame::Sending {
+                at,
+                endpoint,
+                message,
+            },
+        ),
+        MarkWanted::SendDot { at, endpoint } => {
+            ThreadState::Name(NameWanted::SendMessage { at, endpoint })
         }
-        ActState::ReceiveMessage { at, endpoint } => received_step(thread, at, endpoint, token),
+        MarkWanted::ReceiveDot { at, endpoint } => {
+            ThreadState::Name(NameWanted::ReceiveMessage { at, endpoint })
+        }
+    };
+    Ok(Next::Onward(Begun::Nothing, state))
+}
+
+/// A mark that is wanted.
+pub fn mark_step(alloc: Global, stack: &mut Stack, wanted: MarkWanted, token: &Token) -> NextStep
+    ensures { IsNext (stack_of stack.new) token.now
+        (thread_step_at (stack_of stack.old) (mark_state_of wanted) token.now) result }
+{
+    if is_mark(token, mark_of(&wanted)) {
+        marked(alloc, stack, wanted)
+    } else {
+        refuse(wanted, token)
     }
 }

@@ -1,20 +1,21 @@
 //! Where the reading of a thread stands, behind its `{`.
-ghost use Rattle.std.specs.Prelude.{◌≡◌, ◌≢◌, ◌⊎◌, ◌∷◌, [], MatchResult};
-ghost use Rattle.anvil_grammar.specs.declared.error.Counted.TheVariants as counted;
+ghost use Rattle.std.specs.Prelude.{◌≡◌, ◌∷◌, [], List, MatchResult};
 ghost use Rattle.anvil_grammar.specs.State as states;
-ghost use Rattle.anvil_grammar.specs.Step.{at_state, moves, onward};
-ghost use Rattle.parse_threads.specs.Seen.{begun_of, reached_of};
-ghost use Rattle.parse_threads.specs.SeenThread.{acted_begun, frame_of, stack_of, thread_of, thread_state_of};
+ghost use Rattle.anvil_grammar.specs.Step.{at_state, onward, thread_step};
 ghost use Rattle.anvil_tree.specs.View.{term_of};
+ghost use Rattle.parse_threads.specs.Seen.{IsReached, begun_of};
+ghost use Rattle.parse_threads.specs.SeenThread.{IsNext, frame_of, next_of, seen_at, stack_of, term_state_of, thread_of, value_frame_of};
 
-use crate::expect::expect;
+use crate::act::value_step;
+use crate::begin::in_term_step;
+use crate::inside::{cycle_step, mark_step, name_step};
 use crate::label::Label;
-use crate::room::refused;
 use crate::stack::{Frame, Stack};
-use crate::step::{Begin, Begun, Reached};
-use anvil_grammar::{Counted, ParseErr};
-use anvil_lexer::{Mark, Name, Token, TokenKind};
-use anvil_tree::{Act, BinOp, Expr, Term};
+use crate::step::{Begun, Reached};
+use anvil_grammar::ParseErr;
+use anvil_lexer::{Name, Token};
+use anvil_tree::{Act, Expr, Term};
+use parse_expressions::{Expression, put, refused};
 use std::alloc::Global;
 use std::mem;
 
@@ -22,8 +23,6 @@ use std::mem;
 #[derive(Drop)]
 pub enum TermState {
     Wanted,
-    LetName,
-    LetEquals(Name),
     ActWanted,
     AfterAct(Act),
     AfterFirst {
@@ -31,6 +30,44 @@ pub enum TermState {
         condition: Expr,
         first: Term,
     },
+}
+
+/// A name that is wanted next.
+#[derive(Drop)]
+pub enum NameWanted {
+    Variable,
+    Register { at: u32 },
+    SendEndpoint { at: u32 },
+    SendMessage { at: u32, endpoint: Label },
+    ReceiveEndpoint { at: u32 },
+    ReceiveMessage { at: u32, endpoint: Label },
+}
+
+/// A mark that is wanted next.
+#[derive(Drop)]
+pub enum MarkWanted {
+    /// `=` behind the variable of a `let`.
+    Equals(Name),
+    /// `:=` behind the register of a `set`.
+    Assign {
+        at: u32,
+        register: Label,
+    },
+    SendDot {
+        at: u32,
+        endpoint: Label,
+    },
+    /// `(` behind the message of a `send`.
+    SendOpening {
+        at: u32,
+        endpoint: Label,
+        message: Label,
+    },
+    ReceiveDot {
+        at: u32,
+        endpoint: Label,
+    },
+    /// `{` behind `else`.
     ElseOpening {
         at: u32,
         condition: Expr,
@@ -38,95 +75,38 @@ pub enum TermState {
     },
 }
 
-/// What is wanted next in an act, behind its keyword.
+/// An act that waits for its expression.
 #[derive(Drop)]
-pub enum ActState {
-    CycleCount {
-        at: u32,
-    },
-    SetRegister {
-        at: u32,
-    },
-    SetAssign {
+pub enum ValueFrame {
+    /// `set` for its value.
+    Setting {
         at: u32,
         register: Label,
     },
-    SendEndpoint {
-        at: u32,
-    },
-    SendDot {
-        at: u32,
-        endpoint: Label,
-    },
-    SendMessage {
-        at: u32,
-        endpoint: Label,
-    },
-    SendOpening {
+    /// `send` for its value.
+    Sending {
         at: u32,
         endpoint: Label,
         message: Label,
     },
-    ReceiveEndpoint {
+    /// `if` for its condition.
+    Deciding {
         at: u32,
     },
-    ReceiveDot {
-        at: u32,
-        endpoint: Label,
-    },
-    ReceiveMessage {
-        at: u32,
-        endpoint: Label,
-    },
-}
-
-/// What is wanted next in an expression.
-#[derive(Drop)]
-pub enum ExprState {
-    OperandWanted,
-    ShownRegister {
-        at: u32,
-    },
-    ParenthesisOpened {
-        at: u32,
-    },
-    CallOpening {
-        operator: BinOp,
-        at: u32,
-    },
-    AfterWord {
-        at: u32,
-        name: Name,
-    },
-    SliceHigh {
-        at: u32,
-        name: Name,
-    },
-    SliceColon {
-        at: u32,
-        name: Name,
-        high: u32,
-    },
-    SliceLow {
-        at: u32,
-        name: Name,
-        high: u32,
-    },
-    SliceClosing {
-        at: u32,
-        name: Name,
-        high: u32,
-        low: u32,
-    },
-    AfterOperand(Expr),
+    /// An act that is an expression.
+    Evaluating,
 }
 
 /// What is wanted next in a thread.
 #[derive(Drop)]
 pub enum ThreadState {
     Term(TermState),
-    Act(ActState),
-    Expr(ExprState),
+    /// The number of a `cycle`.
+    CycleCount { at: u32 },
+    Name(NameWanted),
+    Mark(MarkWanted),
+    /// The rest of the expression that an act waits for.
+    Value(ValueFrame, Expression),
 }
 
 /// A thread that is being read.
@@ -147,6 +127,18 @@ impl Drop for Thread {
 /// What a token comes to in a thread.
 pub type ThreadStep = Result<Reached<Term>, ParseErr>;
 
+/// Where a token leads in a thread.
+#[derive(Drop)]
+pub enum Next {
+    /// The reading goes on at the state, with the things that begin.
+    Onward(Begun, ThreadState),
+    /// The term is whole.
+    Whole(Term),
+}
+
+/// Where a token leads, or why it cannot stand there.
+pub type NextStep = Result<Next, ParseErr>;
+
 impl Thread {
     /// Behind the `{` of a thread.
     pub fn new(alloc: Global) -> Thread
@@ -157,74 +149,54 @@ impl Thread {
             state: ThreadState::Term(TermState::Wanted),
         }
     }
+}
 
-    /// Goes on at a state.
-    pub fn goes(&mut self, begun: Begun, state: ThreadState) -> ThreadStep
-        ensures { MatchResult result
-            (λ step. reached_of (thread_of self.new) term_of step
-            ≡ onward (begun_of begun) (at_state (stack_of self.old.stack) (thread_state_of state)))
-            (λ _. ⊥) }
-    {
-        self.state = state;
-        Ok(Reached::Onward(begun))
-    }
-
-    /// Goes on at a state inside a frame.
-    pub fn waits(&mut self, begun: Begun, frame: Frame, state: ThreadState) -> ThreadStep
-        ensures { MatchResult result
-            (λ step. reached_of (thread_of self.new) term_of step
-            ≡ onward (begun_of begun) (at_state (frame_of frame ∷ stack_of self.old.stack) (thread_state_of state)))
-            (λ refusal. refusal ≡ ParseErr.NoMemory) }
-    {
-        self.state = state;
-        match self.stack.push(frame) {
-            Ok(()) => Ok(Reached::Onward(begun)),
-            Err(refusal) => Err(refusal),
-        }
-    }
-
-    /// Goes on at a state inside a frame where the token is the mark.
-    pub fn waits_behind(
-        &mut self,
-        token: &Token,
-        mark: Mark,
-        frame: Frame,
-        state: ThreadState,
-    ) -> ThreadStep
-        ensures { MatchResult result
-            (λ step. (token.now.kind ≡ TokenKind.Mark mark)
-            × (reached_of (thread_of self.new) term_of step
-            ≡ moves (frame_of frame ∷ stack_of self.old.stack) (thread_state_of state)))
-            (λ refusal. (refusal ≡ ParseErr.NoMemory)
-            ⊎ ((token.now.kind ≢ TokenKind.Mark mark) × (refusal ≡ ParseErr.Unexpected token.now.at))) }
-    {
-        match expect(token, mark) {
-            Ok(()) => self.waits(Begun::Nothing, frame, state),
-            Err(refusal) => refused((frame, state), refusal),
-        }
+/// A frame waits for a term or an act.
+pub fn waits(stack: &mut Stack, begun: Begun, frame: Frame, state: TermState) -> NextStep
+    ensures { MatchResult result
+        (λ next. next_of (stack_of stack.new) next
+        ≡ onward (begun_of begun) (at_state (frame_of frame ∷ stack_of stack.old) (term_state_of state)))
+        (λ refusal. refusal ≡ ParseErr.NoMemory) }
+{
+    match stack.push(frame) {
+        Ok(()) => Ok(Next::Onward(begun, ThreadState::Term(state))),
+        Err(refusal) => refused(state, refusal),
     }
 }
 
-/// The node that begins at a token, behind an act that may begin there too.
-pub fn node(act: Option<Begin>, token: &Token) -> Begun
-    ensures { begun_of result ≡ acted_begun act (record { kind = counted.Expr; at = token.now.at } ∷ []) }
+/// The expression is wanted that an act waits for.
+pub fn awaits_value(alloc: Global, act: ValueFrame) -> ThreadState
+    ensures { (stack : List states.Frame)
+        → seen_at stack result ≡ at_state (value_frame_of act ∷ stack) states.operand_wanted }
 {
-    let node = Begin {
-        kind: Counted::Expr,
-        at: token.at,
-    };
-    match act {
-        Some(act) => Begun::Two(act, node),
-        None => Begun::One(node),
+    ThreadState::Value(act, Expression::new(alloc))
+}
+
+// Where the token leads at the state.
+fn step_at(alloc: Global, stack: &mut Stack, state: ThreadState, token: &Token) -> NextStep
+    ensures { IsNext (stack_of stack.new) token.now
+        (thread_step (seen_at (stack_of stack.old) state) token.now) result }
+{
+    match state {
+        ThreadState::Term(state) => in_term_step(alloc, stack, state, token),
+        ThreadState::CycleCount { at } => cycle_step(at, token),
+        ThreadState::Name(wanted) => name_step(wanted, token),
+        ThreadState::Mark(wanted) => mark_step(alloc, stack, wanted, token),
+        ThreadState::Value(act, expression) => value_step(alloc, stack, act, expression, token),
     }
 }
 
-/// The act that begins, where one does.
-pub fn begun_by(act: Option<Begin>) -> Begun
-    ensures { begun_of result ≡ acted_begun act [] }
+/// Reads on in a thread.
+pub fn thread_step(alloc: Global, thread: &mut Thread, token: &Token) -> ThreadStep
+    ensures { IsReached (thread_of thread.new) term_of token.now (thread_step (thread_of thread.old) token.now) result }
 {
-    match act {
-        Some(act) => Begun::One(act),
-        None => Begun::Nothing,
+    let state = mem::replace(&mut thread.state, ThreadState::Term(TermState::Wanted));
+    match step_at(alloc, &mut thread.stack, state, token) {
+        Ok(Next::Onward(begun, state)) => {
+            put(&mut thread.state, state);
+            Ok(Reached::Onward(begun))
+        }
+        Ok(Next::Whole(term)) => Ok(Reached::Finished(term)),
+        Err(refusal) => Err(refusal),
     }
 }

@@ -5,8 +5,8 @@ use Rattle.anvil_grammar.specs.Step.{term_ends}
 use Rattle.parse_threads.specs.SeenThread.{stack_of}
 use Rattle.parse_threads.proofs.act.term_ends.Given as goal
 
-abbrev pub invariant-loop-link : goal.invariant-loop-link
-invariant-loop-link l = term_ends (stack_of l.fn.thread.stack) (term_of l.fn.term) ≡ term_ends (stack_of l.thread.stack) (term_of l.term)
+abbrev pub invariant-loop-frame : goal.invariant-loop-frame
+invariant-loop-frame l = term_ends (stack_of l.fn.stack) (term_of l.fn.term) ≡ term_ends (stack_of l.stack) (term_of l.term)
 
-abbrev pub decreases-loop-link : goal.decreases-loop-link
-decreases-loop-link l = length (stack_of l.thread.stack)
+abbrev pub decreases-loop-frame : goal.decreases-loop-frame
+decreases-loop-frame l = length (stack_of l.stack)

@@ -5,6 +5,7 @@
 ghost use Rattle.std.specs.Prelude.{◌≡◌, ◌++◌, ◌∷◌, [], IfErr, MatchResult, OnOk};
 
 use anvil_grammar::ParseErr;
+use anvil_lexer::Token;
 use std::alloc::Global;
 
 /// Puts an item after the others.
@@ -16,6 +17,13 @@ pub fn push<T: Drop>(items: &mut Vec<T>, item: T) -> Result<(), ParseErr>
         Ok(()) => Ok(()),
         Err(_) => Err(ParseErr::NoMemory),
     }
+}
+
+/// Puts a value in a place, and lets go what was there.
+pub fn put<T: Drop>(place: &mut T, value: T)
+    ensures { place.new ≡ value }
+{
+    *place = value;
 }
 
 /// A value in a box of its own.
@@ -52,6 +60,13 @@ pub fn refused<T: Drop, R: Drop>(_value: T, refusal: ParseErr) -> Result<R, Pars
     ensures { MatchResult result (λ _. ⊥) (λ found. found ≡ refusal) }
 {
     Err(refusal)
+}
+
+/// Lets a value go: the token cannot stand behind it.
+pub fn refuse<T: Drop, R: Drop>(_value: T, token: &Token) -> Result<R, ParseErr>
+    ensures { MatchResult result (λ _. ⊥) (λ refusal. refusal ≡ ParseErr.Unexpected token.now.at) }
+{
+    Err(ParseErr::Unexpected { at: token.at })
 }
 
 /// The first value; the other one is let go.

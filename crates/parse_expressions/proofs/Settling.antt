@@ -4,7 +4,7 @@ use Rattle.anvil_tree.specs.Tree.{Expr}
 use Rattle.anvil_grammar.specs.State as states
 use Rattle.anvil_grammar.specs.State.{Frame}
 use Rattle.anvil_grammar.specs.Step.{settled}
-use Rattle.parse_threads.specs.SeenThread.{takes_operand, taken_by}
+use Rattle.parse_expressions.specs.Seen.{takes_operand, taken_by}
 
 pub settled_taken : (strong : ℕ) (frame : Frame) (stack : List Frame) (operand : Expr) → takes_operand strong (frame ∷ stack) ≡ true
     → settled strong (frame ∷ stack) operand ≡ settled strong stack (taken_by frame operand)
