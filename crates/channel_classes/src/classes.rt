@@ -72,29 +72,28 @@ impl Classes {
         self.table.contains_key(name)
     }
 
-    // With one class more, of a name that none has.
-    fn with(self, name: Name, messages: Vec<ClassMessage>) -> Result<Classes, ClassErr>
-        requires fresh { list_any (bytes_eq name) (names_of self) ≡ false }
-        requires room { length self < most_parts }
+    // Puts one class more behind the others, of a name that none has.
+    fn insert(&mut self, name: Name, messages: Vec<ClassMessage>) -> Result<(), ClassErr>
+        requires fresh { list_any (bytes_eq name) (names_of self.old) ≡ false }
+        requires room { length self.old < most_parts }
         ensures { MatchResult result
-            (λ more. more ≡ self ++ record { name = name; messages = messages.items } ∷ [])
+            (λ _. self.new ≡ self.old ++ record { name = name; messages = messages.items } ∷ [])
             (λ fault. fault ≡ NoMemory) }
     {
-        let Classes { mut table } = self;
-        match table.insert(name, messages) {
-            Ok(_) => Ok(Classes { table }),
+        match self.table.insert(name, messages) {
+            Ok(_) => Ok(()),
             Err(_) => Err(ClassErr::NoMemory),
         }
     }
 
-    // With one class more, or the first check of it that fails.
-    fn with_class(self, alloc: Global, class: &Chan) -> Result<Classes, ClassErr>
+    // Puts one class more behind the others, or answers the first check of it that fails.
+    fn read_class(&mut self, alloc: Global, class: &Chan) -> Result<(), ClassErr>
         requires few { length class.now.messages.items ≤ most_parts }
-        requires room { length self < most_parts }
+        requires room { length self.old < most_parts }
         ensures { MatchResult result
-            (λ more. (first_refusal (class_checks (names_of self) (class_of class.now)) ≡ None)
-            × (more ≡ self ++ known_class (class_of class.now) ∷ []))
-            (λ fault. (fault ≡ NoMemory) ⊎ (first_refusal (class_checks (names_of self) (class_of class.now)) ≡ Some fault)) }
+            (λ _. (first_refusal (class_checks (names_of self.old) (class_of class.now)) ≡ None)
+            × (self.new ≡ self.old ++ known_class (class_of class.now) ∷ []))
+            (λ fault. (fault ≡ NoMemory) ⊎ (first_refusal (class_checks (names_of self.old) (class_of class.now)) ≡ Some fault)) }
     {
         if !is_good_name(class.name.bytes()) {
             return Err(ClassErr::BadName { at: class.at });
@@ -103,7 +102,7 @@ impl Classes {
             return Err(ClassErr::Twice { at: class.at });
         }
         match read_messages(alloc, &class.messages) {
-            Ok(messages) => self.with(class.name.copy(), messages),
+            Ok(messages) => self.insert(class.name.copy(), messages),
             Err(fault) => Err(fault),
         }
     }
@@ -122,8 +121,8 @@ pub fn read_classes(alloc: Global, file: &File) -> Result<Classes, ClassErr>
     for item in &file.items {
         match item {
             Item::Proc(_) => {}
-            Item::Chan(class) => match classes.with_class(alloc, class) {
-                Ok(more) => classes = more,
+            Item::Chan(class) => match classes.read_class(alloc, class) {
+                Ok(()) => {}
                 Err(fault) => return Err(fault),
             },
         }

@@ -32,8 +32,9 @@ fn with_form<'a>(
     name: &'a str,
     labels: &[&'a str],
 ) -> Result<Command<'a>, AllocError>
-    ensures { IfOk result (λ more.
-        app_of more ≡ with_subcommand (app_of command.entry) (with_labels name.entry.now (map (λ label. label.now) labels.entry.now))) }
+    ensures { IfOk result (λ more. app_of more
+        ≡ with_subcommand (app_of command.entry)
+        (with_labels name.entry.now (map (λ label. label.now) labels.entry.now))) }
 {
     let form = with_operands(alloc, name, labels)?;
     command.subcommand(form)

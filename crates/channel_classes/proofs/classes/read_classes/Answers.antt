@@ -5,14 +5,14 @@ use Rattle.channel_classes.proofs.Standing.{past_process, past_class, class_stop
 use Rattle.channel_classes.proofs.classes.read_classes.Goals as goal
 use Rattle.channel_classes.proofs.classes.read_classes.Goals.{in-Proc, in-Chan+in-Ok}
 
-pub with_class-requires-clause-few : goal.with_class-requires-clause-few
-with_class-requires-clause-few c =
+pub read_class-requires-clause-few : goal.read_class-requires-clause-few
+read_class-requires-clause-few c =
     let at = rw c.in-Chan.is at (next (file_of c.args.file.now) c.loop-item.classes c.deref-item-items.result.now c.loop-item.item-index c.item-item.result
     (ap (map item_of) (sym c.deref-item-items.ensures.value)) c.loop-item-test.true c.item-item.is c.loop-item.invariant) in
     at.each.0
 
-pub with_class-requires-clause-room : goal.with_class-requires-clause-room
-with_class-requires-clause-room c =
+pub read_class-requires-clause-room : goal.read_class-requires-clause-room
+read_class-requires-clause-room c =
     let at = rw c.in-Chan.is at (next (file_of c.args.file.now) c.loop-item.classes c.deref-item-items.result.now c.loop-item.item-index c.item-item.result
     (ap (map item_of) (sym c.deref-item-items.ensures.value)) c.loop-item-test.true c.item-item.is c.loop-item.invariant) in
     omega (arith, at.room)
