@@ -12,7 +12,7 @@ use Rattle.core_term.specs.Widths.{Widths}
 use Rattle.core_term.specs.View.{term_of, act_of, after_act}
 use Rattle.core_term.specs.Body.{IsBody}
 use Rattle.core_term.proofs.code_tables.Counted.{counted as places_counted}
-use Rattle.core_term.proofs.turn_points.Idle.{act_site}
+use Rattle.core_term.proofs.code_tables.FirstSites.{act_site}
 use Rattle.act_deeds.specs.declared.deed.Deed.{Deed}
 use Rattle.act_deeds.specs.declared.deed.Deed.TheVariants.{Decides, Other}
 use Rattle.act_deeds.specs.Deeds.{AreDeeds, deed_in, deed_of, deeds_of, deeds_in}

@@ -1,6 +1,6 @@
 //! The graph of two turns of a thread.
 use core_term::CoreThread;
-use core_term::example::counting_body;
+use accepted_file::example::counting_body;
 use elaborator::elaborate;
 use event_graph::{Bump, Graph, Kind};
 use std::alloc::{AllocError, Global};

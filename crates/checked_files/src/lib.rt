@@ -6,7 +6,8 @@ mod front;
 mod process;
 mod rules;
 
-pub use core_term::{Accepted, CoreProc};
+pub use accepted_file::Accepted;
+pub use core_term::CoreProc;
 pub use process::{Chosen, process_of_bytes};
 pub use rules::accepted_of_bytes;
 pub use tool_answers::Refusal;

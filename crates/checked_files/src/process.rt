@@ -5,7 +5,8 @@ ghost use Rattle.core_term.specs.ProcessView.{process_of};
 ghost use Rattle.checked_files.specs.Named.{HasProcess, IsProcessOf, IsProcessRefused, process_named};
 
 use crate::rules::accepted_of_bytes;
-use core_term::{Accepted, CoreFile, CoreProc};
+use accepted_file::Accepted;
+use core_term::{CoreFile, CoreProc};
 use std::alloc::Global;
 use tool_answers::{Code, Refusal};
 

@@ -7,7 +7,8 @@ ghost use Rattle.checked_files.specs.Ruled.{IsRejectedCore};
 
 use crate::faults::code_of;
 use crate::front::{Front, core_of_bytes};
-use core_term::{Accepted, CoreFile};
+use accepted_file::Accepted;
+use core_term::CoreFile;
 use std::alloc::Global;
 use timing_check::{TimingErr, check_timing};
 use tool_answers::Refusal;

@@ -1,8 +1,2 @@
--- What follows from the definitions, a folder for each part of the argument.
-pub mod examples
-pub mod turn_points
-pub mod source_runs
-pub mod safe_runs
-pub mod rereading
+-- What the types of the code keep.
 pub mod code_tables
-pub mod graph_tables

@@ -1,5 +1,6 @@
 -- What the types of the code keep: ports, sizes, tables of atoms, rows.
 pub mod Ports
+pub mod FirstSites
 pub mod Fits
 pub mod Counted
 pub mod AtomOrder

@@ -36,17 +36,9 @@ pub mod ProcessView
 pub mod Sized
 pub mod Rows
 pub mod Fitting
-pub mod OneRun
 pub mod Breach
 pub mod LogText
-pub mod Shown
 pub mod StimulusText
-pub mod Accepted
-pub mod Example
 pub mod Occurs
-pub mod TurnLaws
-pub mod SafetyLaws
 pub mod AcceptedFile
 pub mod Graph
-pub mod TableLaws
-pub mod AgreementLaws

@@ -1,25 +1,16 @@
 //! Core terms: what a thread does once names stand for numbers, and the definitions that the tool is proved against.
 #![tactic(auto)]
 
-mod accepted;
-pub mod accepted_example;
-pub mod agreement;
 mod atoms;
-pub mod example;
-pub mod laws;
 mod operators;
 mod places;
 mod process;
 mod rows;
 mod rules;
-pub mod safety;
 mod table;
-pub mod tables;
 mod term;
 mod thread;
-pub mod turns;
 
-pub use accepted::Accepted;
 pub use anvil_bits::Bits;
 pub use anvil_lexer::Name;
 pub use operators::BinOp;

@@ -14,8 +14,8 @@ use Rattle.core_term.specs.Order.{Point, spot_site}
 use Rattle.core_term.specs.Lives.{LastPrecedes}
 use Rattle.core_term.specs.Graph.{Graph, IsGraphOf, Tables, IsOfText}
 use Rattle.core_term.specs.Rules.{Claim, Order, Last, Either, Both, Holds, Demands, use_by, made, sets, receives, sends, sends_next, wire_within, wire_until, set_elsewhere, set_here, choice}
-use Rattle.core_term.proofs.graph_tables.OfText.{of_text, end_real}
-use Rattle.core_term.proofs.graph_tables.Told.{tables, order_told, last_told}
+use Rattle.run_laws.proofs.graph_tables.OfText.{of_text, end_real}
+use Rattle.run_laws.proofs.graph_tables.Told.{tables, order_told, last_told}
 use Rattle.event_points.specs.Endings.{graph_of}
 use Rattle.event_points.proofs.Endings.{graph_is}
 use Rattle.act_deeds.specs.declared.deed.Deed.{Deed}

@@ -6,8 +6,8 @@ use Rattle.core_term.specs.Term.{Term, One, Then, Both, Act, Cycle, Set, Send, R
 use Rattle.core_term.specs.Numbering.{size, act_size, Numbered, NumberedAct}
 use Rattle.core_term.specs.Points.{Spot, forms, act_forms}
 use Rattle.core_term.specs.Order.{Point, IsFormed, HasForm, spot_site}
-use Rattle.core_term.proofs.turn_points.Formed.{Every, every_append, at_form}
-use Rattle.core_term.proofs.turn_points.Idle.{head_site, act_site, size_positive}
+use Rattle.run_laws.proofs.turn_points.Formed.{Every, every_append, at_form}
+use Rattle.core_term.proofs.code_tables.FirstSites.{head_site, act_site, size_positive}
 
 module _ (high : ℕ) where
   mutual

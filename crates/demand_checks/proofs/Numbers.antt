@@ -3,7 +3,7 @@ use Rattle.std.proofs.Common.{ℕ, ◌+◌, ◌<◌, arith, List, []}
 use Rattle.core_term.specs.Term.{Term, Act, site, head}
 use Rattle.core_term.specs.Numbering.{size, act_size, Numbered, NumberedAct}
 use Rattle.core_term.specs.Stands.{Stands, StandsIn, here, in_one, in_then, after_then, in_both, after_both, in_yes, in_no, in_when, in_block}
-use Rattle.core_term.proofs.turn_points.Idle.{head_site, size_positive}
+use Rattle.core_term.proofs.code_tables.FirstSites.{head_site, size_positive}
 
 mutual
   below : {vs ws : List Act} {t u : Term} (low : ℕ) → Numbered vs low t → Stands vs t ws u → site (head u) < low + size t

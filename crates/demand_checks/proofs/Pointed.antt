@@ -19,8 +19,8 @@ use Rattle.core_term.specs.View.{term_of}
 use Rattle.core_term.specs.ProcessView.{widths_of, thread_of}
 use Rattle.core_term.specs.AcceptedFile.{process_in}
 use Rattle.core_term.proofs.code_tables.Acting.{each_site}
-use Rattle.core_term.proofs.graph_tables.OfText.{begin_real, end_real}
-use Rattle.core_term.proofs.graph_tables.Told.{order_told, last_told}
+use Rattle.run_laws.proofs.graph_tables.OfText.{begin_real, end_real}
+use Rattle.run_laws.proofs.graph_tables.Told.{order_told, last_told}
 use Rattle.event_graph.specs.Event.{Event}
 use Rattle.event_order.specs.declared.lag.Lag.{Lag}
 use Rattle.event_order.specs.Lags.{lag_of}

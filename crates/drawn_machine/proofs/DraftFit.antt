@@ -17,7 +17,7 @@ use Rattle.core_term.specs.ProcessView.{port_of}
 use Rattle.core_term.specs.Sized.{term_fits}
 use Rattle.core_term.specs.Widths.{Widths, expr_width}
 use Rattle.core_term.proofs.code_tables.Acting.{each_site}
-use Rattle.core_term.proofs.graph_tables.OfText.{act_end, in_left, part}
+use Rattle.run_laws.proofs.graph_tables.OfText.{act_end, in_left, part}
 use Rattle.event_points.proofs.Once.{formed_inside}
 use Rattle.sv_tree.specs.Module.{Module}
 use Rattle.module_nets.specs.declared.signal.Signal.{Signal}

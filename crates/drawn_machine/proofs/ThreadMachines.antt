@@ -7,7 +7,7 @@ use Rattle.core_term.specs.Term.{Term, Act, Cycle, Set, Send, Recv, If, When, Bl
 use Rattle.core_term.specs.Stands.{Stands}
 use Rattle.core_term.specs.Acts.{OnPort, Receives, Sends}
 use Rattle.core_term.specs.Process.{Process, Thread, IsProcess, IsThread, is_received}
-use Rattle.core_term.specs.TurnLaws.{answer}
+use Rattle.run_laws.specs.TurnLaws.{answer}
 use Rattle.sv_tree.specs.Module.{Module}
 use Rattle.module_nets.specs.declared.signal.Signal.{Signal}
 use Rattle.module_nets.specs.Shown.{IsMomentOf, operand_shown, shown}

@@ -7,7 +7,7 @@ use Rattle.order_rules.specs.Form.{Join}
 use Rattle.core_term.specs.Term.{Term, One, Then, Both, Act, Block, site}
 use Rattle.core_term.specs.Points.{Spot, TermEnd, End, Formed, ◌is◌}
 use Rattle.core_term.specs.Numbering.{OneOf, size, act_size, NumberedAct}
-use Rattle.core_term.proofs.turn_points.Idle.{act_site, act_size_positive}
+use Rattle.core_term.proofs.code_tables.FirstSites.{act_site, act_size_positive}
 use Rattle.event_graph.specs.declared.node.Arm.{Arm}
 use Rattle.event_graph.specs.declared.node.Kind.TheVariants as kind
 use Rattle.event_graph.specs.Event.{Event}

@@ -8,7 +8,7 @@ use Rattle.order_rules.specs.Form.{Side, Merge}
 use Rattle.core_term.specs.Term.{Expr, Term, Act, If, When, site}
 use Rattle.core_term.specs.Points.{Spot, Begin, End, NoSide, ◌is◌}
 use Rattle.core_term.specs.Numbering.{size, act_size}
-use Rattle.core_term.proofs.turn_points.Idle.{act_site, act_size_positive}
+use Rattle.core_term.proofs.code_tables.FirstSites.{act_site, act_size_positive}
 use Rattle.event_graph.specs.declared.node.Arm.{Arm}
 use Rattle.event_graph.specs.declared.node.Kind.TheVariants as kind
 use Rattle.event_graph.specs.Event.{Event}

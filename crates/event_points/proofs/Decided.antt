@@ -17,9 +17,9 @@ use Rattle.core_term.specs.Numbering.{Numbered}
 use Rattle.core_term.specs.Stands.{Stands, StandsIn, here, in_one, in_then, after_then, in_both, after_both, in_yes, in_no, in_when, in_block}
 use Rattle.core_term.specs.Acts.{OnPort, Asks}
 use Rattle.core_term.specs.Occurs.{Occurrence, Later, Gone, At, begin_at}
-use Rattle.core_term.specs.TurnLaws.{times, ObeysRules, Takes}
-use Rattle.core_term.proofs.turn_points.TurnRules.{obeys_rules}
-use Rattle.core_term.proofs.turn_points.Text.{one_term}
+use Rattle.run_laws.specs.TurnLaws.{times, ObeysRules, Takes}
+use Rattle.run_laws.proofs.turn_points.TurnRules.{obeys_rules}
+use Rattle.run_laws.proofs.turn_points.Text.{one_term}
 use Rattle.event_graph.specs.declared.node.Arm.{Arm}
 use Rattle.event_points.specs.Owned.{begin_of}
 use Rattle.event_points.specs.Placed.{arm, Lies}

@@ -19,7 +19,7 @@ use Rattle.core_term.specs.Acts.{OnPort, ActOn}
 use Rattle.core_term.specs.Process.{LifeEnd, Cycles, Until, Process, life_of}
 use Rattle.core_term.specs.Lives.{HasEnding}
 use Rattle.core_term.specs.Graph.{IsGraphOf}
-use Rattle.core_term.proofs.graph_tables.OfText.{in_left, part}
+use Rattle.run_laws.proofs.graph_tables.OfText.{in_left, part}
 use Rattle.event_points.specs.Nodes.{node_of}
 use Rattle.event_points.specs.Endings.{sites_on, act_sites_on, ends_at, endings, graph_of}
 use Rattle.event_points.proofs.Twice as twice_proof

@@ -6,7 +6,7 @@ use Rattle.std.proofs.Common.{◌≡◌, ℕ, suc, ◌+◌, arith, refl, sym, �
 use Rattle.core_term.specs.Term.{Term, One, Then, Both, Act, Cycle, Set, Send, Recv, If, When, Block, Wait, Pure, Nothing, site}
 use Rattle.core_term.specs.Points.{Spot, TermEnd, Begin, End, NoSide}
 use Rattle.core_term.specs.Numbering.{size, act_size, Numbered, NumberedAct}
-use Rattle.core_term.proofs.turn_points.Idle.{act_site}
+use Rattle.core_term.proofs.code_tables.FirstSites.{act_site}
 use Rattle.event_graph.specs.declared.node.Arm.{Arm}
 use Rattle.event_points.specs.Owned.{begin_of, end_of, count, count_of}
 use Rattle.event_points.specs.Placed.{Placed, PlacedAct, Lies, LiesAct, HeadLies, arm}

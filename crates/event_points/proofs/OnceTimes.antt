@@ -7,7 +7,7 @@ use Rattle.core_term.specs.Ends.{Sees}
 use Rattle.core_term.specs.Lists.{Has}
 use Rattle.core_term.specs.Term.{Term}
 use Rattle.core_term.specs.Turns.{begins}
-use Rattle.core_term.specs.TurnLaws.{times}
+use Rattle.run_laws.specs.TurnLaws.{times}
 use Rattle.core_term.specs.Points.{Spot, forms}
 use Rattle.core_term.specs.Order.{IsFormed}
 use Rattle.core_term.specs.Graph.{HasFormOnce}

@@ -8,8 +8,8 @@ use Rattle.core_term.specs.Term.{Expr, Term, One, Then, Both, Act, Cycle, Set, S
 use Rattle.core_term.specs.Points.{Spot, NoSide}
 use Rattle.core_term.specs.Numbering.{size, act_size, Numbered, NumberedAct}
 use Rattle.core_term.specs.Order.{spot_site, Apart, ApartIn}
-use Rattle.core_term.proofs.turn_points.Idle.{head_site}
-use Rattle.core_term.proofs.turn_points.Exclude.{apart_in, apart_act_in}
+use Rattle.core_term.proofs.code_tables.FirstSites.{head_site}
+use Rattle.run_laws.proofs.turn_points.Exclude.{apart_in, apart_act_in}
 use Rattle.event_graph.specs.declared.node.Arm.{Arm}
 use Rattle.event_points.specs.Placed.{arm}
 use Rattle.event_points.proofs.Way.{HeadPoint, term_begin, begin, end, term_end, PointOf, PointAct, way, act_way}

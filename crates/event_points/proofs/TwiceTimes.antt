@@ -10,13 +10,13 @@ use Rattle.core_term.specs.Ends.{Sees}
 use Rattle.core_term.specs.Lists.{Has}
 use Rattle.core_term.specs.Term.{Term}
 use Rattle.core_term.specs.Turns.{begins}
-use Rattle.core_term.specs.TurnLaws.{times, ObeysRules}
+use Rattle.run_laws.specs.TurnLaws.{times, ObeysRules}
 use Rattle.core_term.specs.Points.{Spot, forms}
 use Rattle.core_term.specs.Order.{Point, point, IsFormed, HasForm}
 use Rattle.core_term.specs.Numbering.{Numbered}
 use Rattle.core_term.specs.Occurs.{Occurrence, At}
-use Rattle.core_term.proofs.turn_points.Order.{next_from, next_to}
-use Rattle.core_term.proofs.turn_points.TurnRules.{obeys_rules}
+use Rattle.run_laws.proofs.turn_points.Order.{next_from, next_to}
+use Rattle.run_laws.proofs.turn_points.TurnRules.{obeys_rules}
 use Rattle.event_graph.specs.declared.node.Arm.{Arm}
 use Rattle.event_graph.specs.Times.{Given, time_by, AreTimes}
 use Rattle.event_points.specs.Owned.{begin_of, end_of}

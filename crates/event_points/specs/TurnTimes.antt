@@ -11,7 +11,7 @@ use Rattle.core_term.specs.Points.{Spot, End}
 use Rattle.core_term.specs.Order.{Point, point, HasForm}
 use Rattle.core_term.specs.Graph.{HasFormOnce}
 use Rattle.core_term.specs.Occurs.{Occurrence, At}
-use Rattle.core_term.specs.TurnLaws.{times, IsFirst, answer}
+use Rattle.run_laws.specs.TurnLaws.{times, IsFirst, answer}
 use Rattle.core_term.specs.Turns.{begins, HasBegun}
 use Rattle.core_term.specs.Acts.{OnPort, Asks}
 use Rattle.event_graph.specs.Event.{Event}

@@ -10,7 +10,7 @@ use Rattle.core_term.specs.Process.{LifeEnd, Port, nth_port}
 use Rattle.core_term.specs.ProcessView.{port_of, process_of}
 use Rattle.core_term.specs.Names.{is_good_name}
 use Rattle.core_term.specs.Sized.{is_sized, process_fits}
-use Rattle.core_term.proofs.source_runs.Offers.{and_first, and_second}
+use Rattle.run_laws.proofs.source_runs.Offers.{and_first, and_second}
 use Rattle.exchanges.specs.Lives.{lives_of}
 
 -- one item more of a list that is copied

@@ -9,7 +9,7 @@ use Rattle.core_term.specs.Wires.{Wires, Exchange, WithinAll, InLife, IsKept}
 use Rattle.core_term.specs.History.{or_else}
 use Rattle.core_term.specs.Outputs.{alive, latest}
 use Rattle.core_term.specs.LogText.{exchanged, lives, is_shown}
-use Rattle.core_term.proofs.source_runs.Shown.{first_true, second_true, find, found_is, alive_within, within_alive, exchange_is, is_exchange}
+use Rattle.run_laws.proofs.source_runs.Shown.{first_true, second_true, find, found_is, alive_within, within_alive, exchange_is, is_exchange}
 use Rattle.exchanges.specs.declared.latest.Latest.{Latest}
 use Rattle.exchanges.specs.Next.{LatestIs, latest_before, IsLatest}
 use Rattle.exchanges.specs.Promise.{differs, BrokenBy, PromiseIsTold, ShownIsTold}

@@ -10,7 +10,7 @@ use Rattle.core_term.specs.AcceptedFile.{file_of, process_in}
 use Rattle.core_term.specs.Process.{Process}
 use Rattle.core_term.specs.Rules.{KeepsDemands}
 use Rattle.core_term.specs.Violations.{IsNth}
-use Rattle.core_term.proofs.safe_runs.NoViolations.{from_empty}
+use Rattle.run_laws.proofs.safe_runs.NoViolations.{from_empty}
 use Rattle.checked_files.specs.Check.{IsAcceptedCore, processes_in}
 use Rattle.checked_files.proofs.Ruled.{processes_are}
 use Rattle.generated_file.specs.Generated.{generated}

@@ -8,7 +8,7 @@ use Rattle.core_term.specs.Term.{Term, One, Then, Both, Act, Cycle, Set, Send, R
 use Rattle.core_term.specs.Numbering.{size, act_size, Numbered, NumberedAct}
 use Rattle.core_term.specs.Widths.{Widths}
 use Rattle.core_term.specs.View.{term_of, act_of, after_act}
-use Rattle.core_term.proofs.turn_points.Sound.{has_either}
+use Rattle.core_term.proofs.code_tables.Fits.{has_either}
 use Rattle.event_points.specs.Endings.{sites_on, act_sites_on}
 use Rattle.life_tables.specs.Sites.{port_sites, kind_sites}
 

@@ -11,9 +11,9 @@ use Rattle.core_term.specs.Outputs.{wires}
 use Rattle.core_term.specs.Process.{Process, IsProcess}
 use Rattle.core_term.specs.Reread.{Reread, IsReread}
 use Rattle.core_term.specs.Rules.{KeepsDemands}
-use Rattle.core_term.proofs.rereading.Agreed.{agrees}
-use Rattle.core_term.proofs.rereading.Breaks.{breaks_alike}
-use Rattle.core_term.proofs.rereading.SameLogs.{same_log}
+use Rattle.run_laws.proofs.rereading.Agreed.{agrees}
+use Rattle.run_laws.proofs.rereading.Breaks.{breaks_alike}
+use Rattle.run_laws.proofs.rereading.SameLogs.{same_log}
 use Rattle.machine_meaning.specs.Meaning.{ModuleLogsAreSame, ModulesAgree}
 use Rattle.machine_meaning.specs.ModuleRun.{shown_run}
 

@@ -9,7 +9,7 @@ use Rattle.core_term.specs.Wires.{Wires}
 use Rattle.core_term.specs.Outputs.{wires}
 use Rattle.core_term.specs.Rules.{KeepsDemands}
 use Rattle.core_term.specs.Agreement.{AgreesAt}
-use Rattle.core_term.specs.AgreementLaws.{SameLog}
+use Rattle.run_laws.specs.AgreementLaws.{SameLog}
 use Rattle.core_term.specs.Breach.{PromisesKept}
 use Rattle.core_term.specs.Reread.{IsReread}
 use Rattle.sv_tree.specs.Module.{Module}

@@ -6,7 +6,7 @@ use Rattle.std.proofs.Common.{◌≡◌, ℕ, ◌+◌, arith, refl, sym, ◌∙�
 use Rattle.core_term.specs.Term.{Term, One, Then, Both, Act, Cycle, Set, Send, Recv, If, When, Block, Wait, Pure, Nothing, site, head}
 use Rattle.core_term.specs.Numbering.{size, act_size, Numbered, NumberedAct}
 use Rattle.core_term.specs.Stands.{Stands, StandsIn, here, in_one, in_then, after_then, in_both, after_both, in_yes, in_no, in_when, in_block}
-use Rattle.core_term.proofs.turn_points.Idle.{act_site}
+use Rattle.core_term.proofs.code_tables.FirstSites.{act_site}
 use Rattle.process_machine.specs.StateBits.{acts_bits, act_bits}
 use Rattle.act_deeds.specs.declared.deed.Deed.{Deed}
 use Rattle.act_deeds.specs.Deeds.{AreDeeds, deed_in}

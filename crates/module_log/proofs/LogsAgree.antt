@@ -9,8 +9,8 @@ use Rattle.core_term.specs.Process.{Port, Process, IsProcess}
 use Rattle.core_term.specs.Rows.{row_fits, inputs_of}
 use Rattle.core_term.specs.Rules.{KeepsDemands}
 use Rattle.core_term.proofs.code_tables.FittingRows.{inputs_fit}
-use Rattle.core_term.proofs.rereading.SameLogs.{same_log}
-use Rattle.core_term.proofs.source_runs.Exists.{is_history}
+use Rattle.run_laws.proofs.rereading.SameLogs.{same_log}
+use Rattle.run_laws.proofs.source_runs.Exists.{is_history}
 use Rattle.machine_meaning.specs.Meaning.{MeansReread}
 use Rattle.machine_meaning.specs.ModuleRun.{shown_run}
 use Rattle.source_log.specs.Log.{registers_on, shown_on}

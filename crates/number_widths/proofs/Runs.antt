@@ -28,8 +28,8 @@ use Rattle.core_term.specs.Again.{now_in}
 use Rattle.core_term.specs.Reread.{Reread, IsReread, Begins, sight, deciding, again_at}
 use Rattle.core_term.proofs.code_tables.Fits as fits
 use Rattle.core_term.proofs.code_tables.Fits.{from_body, thread_of_all}
-use Rattle.core_term.proofs.rereading.Decide.{within}
-use Rattle.core_term.proofs.turn_points.TurnRules.{obeys_rules}
+use Rattle.run_laws.proofs.rereading.Decide.{within}
+use Rattle.run_laws.proofs.turn_points.TurnRules.{obeys_rules}
 use Rattle.number_widths.specs.NumbersFit.{ResetsFit, NumbersFit}
 use Rattle.number_widths.proofs.Again.{Fits, Standing, standing}
 

@@ -13,10 +13,10 @@ use Rattle.core_term.specs.Tail.{IsTail}
 use Rattle.core_term.specs.Stands.{Stands}
 use Rattle.core_term.specs.Acts.{OnPort, Sends, Sets, Uses, ActOn, SetAt}
 use Rattle.core_term.specs.Process.{Process, Thread, IsThread, IsProcess}
-use Rattle.core_term.specs.TurnLaws.{times}
+use Rattle.run_laws.specs.TurnLaws.{times}
 use Rattle.core_term.specs.Reread.{Reread, Begins, again_at, deciding}
-use Rattle.core_term.proofs.turn_points.TurnRules.{obeys_rules}
-use Rattle.core_term.proofs.turn_points.Text.{one_term}
+use Rattle.run_laws.proofs.turn_points.TurnRules.{obeys_rules}
+use Rattle.run_laws.proofs.turn_points.Text.{one_term}
 use Rattle.turn_pulses.proofs.Reflects.{Reflects, same_fact, reflects_and}
 use Rattle.process_machine.specs.ActTests.{sets_register, sends_on, passes_at}
 use Rattle.process_machine.specs.ThreadMachine.{ThreadMachine, begins_in, IsThreadMachine}

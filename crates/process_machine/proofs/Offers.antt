@@ -12,7 +12,7 @@ use Rattle.core_term.specs.Ends.{act_ends}
 use Rattle.core_term.specs.Stands.{Stands}
 use Rattle.core_term.specs.Acts.{OnPort}
 use Rattle.core_term.specs.Process.{Process, Thread, IsThread, IsProcess}
-use Rattle.core_term.specs.TurnLaws.{answer}
+use Rattle.run_laws.specs.TurnLaws.{answer}
 use Rattle.core_term.specs.Reread.{Reread, Begins, Offers, deciding}
 use Rattle.turn_pulses.proofs.Reflects.{Reflects, is_true, fact_of, off}
 use Rattle.process_machine.specs.ActTests.{is_on_port, passes_at}

@@ -5,8 +5,8 @@ use Rattle.core_term.specs.Term.{Act, Cycle, Set, Send, Recv, If, When, Block, W
 use Rattle.core_term.specs.Value.{Value, Outcome, Done, Wire, nothing}
 use Rattle.core_term.specs.Ends.{Sees, act_ends, found}
 use Rattle.core_term.specs.Acts.{OnPort, Sends}
-use Rattle.core_term.specs.TurnLaws.{answer}
-use Rattle.core_term.proofs.source_runs.Offers.{first_by, found_is}
+use Rattle.run_laws.specs.TurnLaws.{answer}
+use Rattle.run_laws.proofs.source_runs.Offers.{first_by, found_is}
 
 -- a `send` is an act on its port
 pub on_its_port : (act : Act) (port : ℕ) → Sends act port → OnPort act port

@@ -17,10 +17,10 @@ use Rattle.core_term.specs.Tail.{IsTail}
 use Rattle.core_term.specs.Stands.{Stands}
 use Rattle.core_term.specs.Acts.{OnPort, Uses, Asks}
 use Rattle.core_term.specs.Reread.{deciding, DecidesAgain}
-use Rattle.core_term.specs.TurnLaws.{times, answer}
-use Rattle.core_term.proofs.turn_points.Placed.{place}
-use Rattle.core_term.proofs.rereading.Decide.{within as runs_within}
-use Rattle.core_term.proofs.turn_points.TurnRules.{obeys_rules}
+use Rattle.run_laws.specs.TurnLaws.{times, answer}
+use Rattle.run_laws.proofs.turn_points.Placed.{place}
+use Rattle.run_laws.proofs.rereading.Decide.{within as runs_within}
+use Rattle.run_laws.proofs.turn_points.TurnRules.{obeys_rules}
 use Rattle.turn_pulses.proofs.Reflects.{Reflects, same_bit, same_fact, is_true, is_false}
 use Rattle.turn_pulses.proofs.Pulses.{pulse_right, offer_right}
 use Rattle.turn_pulses.proofs.Latest.{latest, never}

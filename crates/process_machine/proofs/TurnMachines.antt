@@ -4,7 +4,7 @@ use Rattle.std.proofs.Common.{ℕ, arith}
 use Rattle.core_term.specs.Inputs.{Inputs}
 use Rattle.core_term.specs.Term.{Term, site, head}
 use Rattle.core_term.specs.Points.{Begin}
-use Rattle.core_term.proofs.turn_points.Text.{stands_in}
+use Rattle.run_laws.proofs.turn_points.Text.{stands_in}
 use Rattle.turn_machine.specs.OneTurn.{IsTurnBody, DrawsTurn}
 use Rattle.turn_machine.proofs.OneTurn.{graph_of_turn, turn_drawn}
 use Rattle.process_machine.specs.ThreadMachine.{IsThreadMachine}

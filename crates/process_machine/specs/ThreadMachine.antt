@@ -13,7 +13,7 @@ use Rattle.core_term.specs.Points.{Spot, Begin}
 use Rattle.core_term.specs.Stands.{Stands}
 use Rattle.core_term.specs.Acts.{OnPort, Uses, Asks}
 use Rattle.core_term.specs.Reread.{read_again, deciding}
-use Rattle.core_term.specs.TurnLaws.{answer}
+use Rattle.run_laws.specs.TurnLaws.{answer}
 use Rattle.turn_pulses.specs.TurnGraph.{TurnGraph, IsTurnGraph}
 use Rattle.turn_pulses.specs.PulseMachine.{Seen, PulseMachine, IsPulseMachine}
 use Rattle.turn_pulses.specs.Latest.{IsLatest}

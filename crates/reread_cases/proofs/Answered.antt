@@ -11,7 +11,7 @@ use Rattle.core_term.specs.Stands.{Stands, here, in_one, in_then, after_then, in
 use Rattle.core_term.specs.Acts.{OnPort, Sends, Sets, Uses, Asks}
 use Rattle.core_term.specs.Process.{Thread, IsThread, is_received}
 use Rattle.core_term.specs.Reread.{IsReread, DecidesAgain, Begins, Offers, deciding, read_again}
-use Rattle.core_term.proofs.rereading.Decide.{within}
+use Rattle.run_laws.proofs.rereading.Decide.{within}
 use Rattle.reread_cases.specs.Answering.{taken, sent, asked, last, decided, body, answering, inputs, run}
 
 abbrev view : Sees

@@ -12,7 +12,7 @@ use Rattle.core_term.specs.Fitting.{RowsFit}
 use Rattle.core_term.specs.Process.{Port, Process, Register}
 use Rattle.core_term.specs.Rows.{row_fits, inputs_of, number_of, registers_shown}
 use Rattle.core_term.proofs.code_tables.FittingRows.{inputs_fit}
-use Rattle.core_term.proofs.source_runs.Exists.{is_history}
+use Rattle.run_laws.proofs.source_runs.Exists.{is_history}
 use Rattle.machine_meaning.specs.Meaning.{Agrees}
 use Rattle.run_log.specs.Log.{IsKeptTo}
 use Rattle.run_log.specs.Shown.{Shown}

@@ -15,7 +15,7 @@ use Rattle.core_term.specs.Outputs.{alive, latest}
 use Rattle.core_term.specs.Process.{LifeEnd, Cycles, Until, Port, Process, nth_port, life_of}
 use Rattle.core_term.specs.Rows.{nth_cell, nth_row, ack_in, cell_fits, cells_fit}
 use Rattle.core_term.specs.Wires.{Wires, Exchange, WithinAll, IsKept}
-use Rattle.core_term.proofs.source_runs.Offers.{and_second}
+use Rattle.run_laws.proofs.source_runs.Offers.{and_second}
 use Rattle.run_log.specs.OnRows.{IsOnRows}
 use Rattle.run_log.specs.Ports.{port_wires}
 use Rattle.run_log.specs.Shown.{Shown}

@@ -11,11 +11,11 @@ use Rattle.std.proofs.lemmas.List.{take_more}
 use Rattle.core_term.specs.declared.rows.InCell.{InCell}
 use Rattle.core_term.specs.declared.rows.OutRow.{OutRow}
 use Rattle.core_term.specs.declared.rows.Row.{Row}
-use Rattle.core_term.specs.OneRun.{SameRows, SameWires}
+use Rattle.run_laws.specs.OneRun.{SameRows, SameWires}
 use Rattle.core_term.specs.Process.{Port, Process, nth_port, is_received}
 use Rattle.core_term.specs.Rows.{nth_cell, nth_row, valid_in, data_in, ack_in, inputs_of, out_cell, cell_shown, cells_shown, cell_fits, cells_fit}
 use Rattle.core_term.specs.Wires.{Wires}
-use Rattle.core_term.proofs.source_runs.Offers.{and_second}
+use Rattle.run_laws.proofs.source_runs.Offers.{and_second}
 use Rattle.stim_text.specs.Seen.{nth_out, driven_by, data_by, wires_seen, ShowsRows}
 use Rattle.stim_text.specs.Watching.{out_cell_fits, out_cells_fit}
 use Rattle.run_log.specs.OnRows.{IsOnRows}

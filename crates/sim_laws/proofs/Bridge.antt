@@ -17,8 +17,8 @@ use Rattle.core_term.specs.Process.{Process, nth_port, nth_register, is_received
 use Rattle.core_term.specs.Sized.{is_width, parts_fit, expr_fits, term_fits, act_fits}
 use Rattle.core_term.specs.View.{expr_of, after_act, term_of, act_of}
 use Rattle.core_term.specs.Widths.{Widths, result_width, expr_width, term_width, act_width}
-use Rattle.core_term.proofs.source_runs.Offers.{and_first, and_second}
-use Rattle.core_term.proofs.turn_points.Idle.{act_site, act_size_positive}
+use Rattle.run_laws.proofs.source_runs.Offers.{and_first, and_second}
+use Rattle.core_term.proofs.code_tables.FirstSites.{act_site, act_size_positive}
 use Rattle.sim_laws.specs.SiteWidths.{site_widths, inner_widths}
 use Rattle.sim_laws.specs.Typed.{term_in, act_in, last_width, Fits, Typed, TypedAct}
 use Rattle.sim_laws.proofs.Touched.{Below, below_more}

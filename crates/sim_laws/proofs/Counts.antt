@@ -5,7 +5,7 @@ use Rattle.core_term.specs.declared.rows.InCell.{InCell}
 use Rattle.core_term.specs.Process.{Port}
 use Rattle.core_term.specs.ProcessView.{port_of}
 use Rattle.core_term.specs.Rows.{cell_fits, cells_fit}
-use Rattle.core_term.proofs.source_runs.Offers.{and_second}
+use Rattle.run_laws.proofs.source_runs.Offers.{and_second}
 use Rattle.exchanges.specs.declared.latest.Latest.{Latest}
 use Rattle.exchanges.specs.Lives.{lives_of}
 use Rattle.sim_laws.specs.declared.drive.Drive.{Drive}

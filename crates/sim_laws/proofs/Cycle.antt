@@ -16,9 +16,9 @@ use Rattle.core_term.specs.Process.{Port, Thread, Process, IsThread, IsProcess, 
 use Rattle.core_term.specs.History.{or_else, get_else, written_by, history}
 use Rattle.core_term.specs.Outputs.{Offer, offered, has, driven, valid_wire, ack_wire, exchange, alive, data_of, latest, kept, shown_data, data_wire, wires}
 use Rattle.core_term.specs.Rows.{number_of, nth_cell, valid_in, data_in, ack_in, cell_fits, cells_fit, out_cell, cell_shown, cells_shown}
-use Rattle.core_term.proofs.source_runs.Exists.{is_history}
-use Rattle.core_term.proofs.source_runs.Offers.{begun_act, and_first, and_second}
-use Rattle.core_term.proofs.source_runs.Written.{written_is}
+use Rattle.run_laws.proofs.source_runs.Exists.{is_history}
+use Rattle.run_laws.proofs.source_runs.Offers.{begun_act, and_first, and_second}
+use Rattle.run_laws.proofs.source_runs.Written.{written_is}
 use Rattle.exchanges.specs.declared.latest.Latest.{Latest}
 use Rattle.exchanges.specs.Lives.{lives_of}
 use Rattle.exchanges.specs.Next.{next, LatestIs, latest_before, IsLatest}

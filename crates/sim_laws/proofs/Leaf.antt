@@ -14,8 +14,8 @@ use Rattle.core_term.specs.Term.{Expr, Lit, Var, Reg, Not, Bin, Slice, Choose, A
 use Rattle.core_term.specs.Numbering.{OneOf, InScope}
 use Rattle.core_term.specs.Value.{Value, Outcome, Open, Done, value, nothing, read}
 use Rattle.core_term.specs.Ends.{first, found, later, waited, decided}
-use Rattle.core_term.proofs.turn_points.NotBefore.{NotBefore}
-use Rattle.core_term.proofs.source_runs.Offers.{IsPending, found_is, found_by}
+use Rattle.run_laws.proofs.turn_points.NotBefore.{NotBefore}
+use Rattle.run_laws.proofs.source_runs.Offers.{IsPending, found_is, found_by}
 use Rattle.sim_laws.specs.declared.act_state.ActState.{ActState}
 use Rattle.sim_laws.specs.Advance.{state_at, number_in, evaluate, taken_by, does_of, count_of, visit_state, end_state, timed, talked, waited_for, unit_of, later_made}
 use Rattle.sim_laws.specs.Present.{value_by}

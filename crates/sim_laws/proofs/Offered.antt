@@ -15,7 +15,7 @@ use Rattle.core_term.specs.Turns.{run_from, run_of, no_variable}
 use Rattle.core_term.specs.History.{or_else, greatest}
 use Rattle.core_term.specs.Outputs.{least, on_port, pending, Offer, offered_by, offered, sent_value, has}
 use Rattle.core_term.specs.Process.{Thread}
-use Rattle.core_term.proofs.source_runs.Offers.{turns_take}
+use Rattle.run_laws.proofs.source_runs.Offers.{turns_take}
 use Rattle.sim_laws.specs.declared.act_state.ActState.{ActState}
 use Rattle.sim_laws.specs.declared.act_state.Does.{Does}
 use Rattle.sim_laws.specs.declared.act_state.Does.TheVariants as does

@@ -14,9 +14,9 @@ use Rattle.core_term.specs.Acts.{OnPort}
 use Rattle.core_term.specs.Occurs.{At, of_outcome, begin_at, end_at}
 use Rattle.core_term.specs.History.{or_else, greatest, set_by, set_at}
 use Rattle.core_term.specs.Outputs.{on_port, pending, Offer, offered_by}
-use Rattle.core_term.proofs.turn_points.Order.{later_turn}
-use Rattle.core_term.proofs.turn_points.Placed.{some_start, turn_end, begin_since}
-use Rattle.core_term.proofs.turn_points.TurnTails.{tailed}
+use Rattle.run_laws.proofs.turn_points.Order.{later_turn}
+use Rattle.run_laws.proofs.turn_points.Placed.{some_start, turn_end, begin_since}
+use Rattle.run_laws.proofs.turn_points.TurnTails.{tailed}
 use Rattle.sim_laws.specs.declared.act_state.ActState.{ActState}
 use Rattle.sim_laws.specs.Present.{value_by, PresentTurn}
 

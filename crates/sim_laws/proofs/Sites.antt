@@ -7,10 +7,10 @@ use Rattle.core_term.specs.Numbering.{size, act_size, Numbered, NumberedAct}
 use Rattle.core_term.specs.Value.{Value, Outcome, Open, Done, value}
 use Rattle.core_term.specs.Ends.{sees, bind, act_ends}
 use Rattle.core_term.specs.Fate.{Fate, Waits, Lost, Runs, fate, inside, once}
-use Rattle.core_term.proofs.turn_points.NotBefore.{BeginsFrom, fate_from}
-use Rattle.core_term.proofs.turn_points.Idle.{head_site, act_size_positive}
-use Rattle.core_term.proofs.turn_points.Live.{Agrees, pick_ge}
-use Rattle.core_term.proofs.turn_points.Parts.{one_inner, then_inner, both_inner, both_rest, if_yes_is, if_no_is, block_in, runs_here}
+use Rattle.run_laws.proofs.turn_points.NotBefore.{BeginsFrom, fate_from}
+use Rattle.core_term.proofs.code_tables.FirstSites.{head_site, act_size_positive}
+use Rattle.run_laws.proofs.turn_points.Live.{Agrees, pick_ge}
+use Rattle.run_laws.proofs.turn_points.Parts.{one_inner, then_inner, both_inner, both_rest, if_yes_is, if_no_is, block_in, runs_here}
 use Rattle.sim_laws.specs.declared.act_state.ActState.{ActState}
 use Rattle.sim_laws.specs.Advance.{state_at}
 use Rattle.sim_laws.specs.Remembers.{Shown, Waiting, Chosen, After, ShownAct, Remembers, RemembersInside}

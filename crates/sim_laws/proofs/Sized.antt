@@ -20,7 +20,7 @@ use Rattle.core_term.specs.Sized.{expr_fits, term_fits, act_fits}
 use Rattle.core_term.specs.View.{after_act, term_of}
 use Rattle.core_term.specs.Widths.{Widths}
 use Rattle.core_term.proofs.code_tables.Fits.{standing_fits, head_fits, thread_of_all}
-use Rattle.core_term.proofs.source_runs.Offers.{and_first, and_second}
+use Rattle.run_laws.proofs.source_runs.Offers.{and_first, and_second}
 use Rattle.exchanges.specs.Next.{Bounded}
 use Rattle.sim_laws.specs.declared.act_state.ActState.{ActState}
 use Rattle.sim_laws.specs.declared.act_state.Does.{Does}

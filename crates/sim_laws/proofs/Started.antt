@@ -17,7 +17,7 @@ use Rattle.core_term.specs.Rows.{inputs_of}
 use Rattle.core_term.specs.Sized.{is_sized, is_width, port_fits, register_fits, is_same_port, is_same_register, lives_fit, process_fits, term_fits, words_fit}
 use Rattle.core_term.specs.View.{term_of}
 use Rattle.core_term.specs.Widths.{Widths}
-use Rattle.core_term.proofs.source_runs.Offers.{and_first, and_second}
+use Rattle.run_laws.proofs.source_runs.Offers.{and_first, and_second}
 use Rattle.exchanges.specs.declared.latest.Latest.{Latest}
 use Rattle.sim_laws.specs.declared.act_state.ActState.{ActState}
 use Rattle.sim_laws.specs.Advance.{state_at, zero_bit}

@@ -17,7 +17,7 @@ use Rattle.core_term.specs.Process.{LifeEnd, Port, Register, Thread, Process, Is
 use Rattle.core_term.specs.ProcessView.{port_of, register_of, process_of}
 use Rattle.core_term.specs.Rows.{number_of, cells_fit, cells_shown, registers_shown}
 use Rattle.core_term.specs.Sized.{is_sized, port_fits, is_same_port, lives_fit, process_fits}
-use Rattle.core_term.proofs.source_runs.Offers.{and_first, and_second}
+use Rattle.run_laws.proofs.source_runs.Offers.{and_first, and_second}
 use Rattle.exchanges.specs.declared.latest.Latest.{Latest}
 use Rattle.exchanges.specs.Lives.{lives_of}
 use Rattle.exchanges.specs.Next.{Bounded, next}

@@ -11,8 +11,8 @@ use Rattle.core_term.specs.Term.{Expr, Term, One, Then, Both, Act, Cycle, Set, S
 use Rattle.core_term.specs.Numbering.{size, act_size, OneOf, Numbered, NumberedAct}
 use Rattle.core_term.specs.Value.{Value, Outcome, Open, Done, value, nothing, Wire}
 use Rattle.core_term.specs.Ends.{sees, bind, ends, act_ends, first, found, after_end, decided}
-use Rattle.core_term.proofs.turn_points.NotBefore.{NotBefore, ends_from, act_ends_from}
-use Rattle.core_term.proofs.turn_points.Idle.{act_site, act_size_positive}
+use Rattle.run_laws.proofs.turn_points.NotBefore.{NotBefore, ends_from, act_ends_from}
+use Rattle.core_term.proofs.code_tables.FirstSites.{act_site, act_size_positive}
 use Rattle.sim_laws.specs.declared.act_state.ActState.{ActState}
 use Rattle.sim_laws.specs.Advance.{Advanced, state_at, number_in, zero_bit, visit_state, visit, close_with, close, timed, talked, waited_for, unit_of, word_of, then_on, advance, advance_act}
 use Rattle.sim_laws.specs.Remembers.{ended_by, over_by, made_by, Shown, Waiting, Chosen, After, ShownAct, Remembers, RemembersInside, RemembersAct}

@@ -14,7 +14,7 @@ use Rattle.core_term.specs.Value.{Outcome, Open, Done}
 use Rattle.core_term.specs.Ends.{sees, ends}
 use Rattle.core_term.specs.Occurs.{At, of_outcome}
 use Rattle.core_term.specs.Turns.{begins, begin_after, no_variable}
-use Rattle.core_term.proofs.turn_points.Strict.{takes}
+use Rattle.run_laws.proofs.turn_points.Strict.{takes}
 use Rattle.sim_laws.specs.declared.act_state.ActState.{ActState}
 use Rattle.sim_laws.specs.Advance.{Advanced, state_at, advance}
 use Rattle.sim_laws.specs.Passes.{cleared, turn_on}

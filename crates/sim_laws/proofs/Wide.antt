@@ -13,7 +13,7 @@ use Rattle.core_term.specs.Process.{Port, nth_port}
 use Rattle.core_term.specs.Sized.{parts_fit}
 use Rattle.core_term.specs.Term.{Expr, Lit, Var, Reg, Not, Bin, Slice, Choose, Term, One, Then, Both, Act, Cycle, Set, Send, Recv, If, When, Block, Wait, Pure, Nothing, site}
 use Rattle.core_term.specs.Widths.{Widths, expr_width}
-use Rattle.core_term.proofs.source_runs.Offers.{and_first, and_second}
+use Rattle.run_laws.proofs.source_runs.Offers.{and_first, and_second}
 use Rattle.sim_laws.specs.declared.act_state.ActState.{ActState}
 use Rattle.sim_laws.specs.Advance.{Advanced, zero_bit, state_at, number_in, evaluate, does_of, taken_by, begin_state, go_on_state, visit_state, visit, end_state, close_with, close, timed, talked, waited_for, unit_of, word_of, is_chosen, then_on, later_made, advance, inside, advance_act}
 use Rattle.sim_laws.specs.Typed.{kept_width, TakeFits, AreWide, last_width, Typed, TypedAct}

@@ -13,8 +13,8 @@ use Rattle.core_term.specs.Turns.{run_of}
 use Rattle.core_term.specs.Acts.{Sets, SetAt}
 use Rattle.core_term.specs.History.{or_else, greatest, get_else, set_by, set_at, written, written_by}
 use Rattle.core_term.specs.Process.{Thread, IsThread}
-use Rattle.core_term.proofs.source_runs.Offers.{begun_act}
-use Rattle.core_term.proofs.source_runs.Written.{written_is, Writes}
+use Rattle.run_laws.proofs.source_runs.Offers.{begun_act}
+use Rattle.run_laws.proofs.source_runs.Written.{written_is, Writes}
 use Rattle.core_term.specs.Log.{Begun}
 use Rattle.sim_laws.specs.declared.act_state.ActState.{ActState}
 use Rattle.sim_laws.specs.declared.act_state.Does.{Does}

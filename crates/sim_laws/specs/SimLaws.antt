@@ -6,7 +6,7 @@ use Rattle.core_term.specs.Process.{Process, nth_port}
 use Rattle.core_term.specs.History.{history}
 use Rattle.core_term.specs.Outputs.{wires}
 use Rattle.core_term.specs.Rows.{row_fits, inputs_of, cells_shown}
-use Rattle.core_term.specs.OneRun.{SameRows}
+use Rattle.run_laws.specs.OneRun.{SameRows}
 use Rattle.sim_laws.specs.Fitting.{Fitting}
 use Rattle.sim_laws.specs.Passes.{drive_at}
 use Rattle.sim_laws.specs.Stands.{State, AreLong, StandsAfter, state_after, drives_in, shown_cells, number_at, latest_at}

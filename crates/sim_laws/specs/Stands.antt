@@ -12,7 +12,7 @@ use Rattle.core_term.specs.Process.{LifeEnd, Port, Thread, Process, life_of}
 use Rattle.core_term.specs.History.{history}
 use Rattle.core_term.specs.Outputs.{exchange, offered, data_of}
 use Rattle.core_term.specs.Rows.{number_of, inputs_of}
-use Rattle.core_term.specs.OneRun.{SameRows}
+use Rattle.run_laws.specs.OneRun.{SameRows}
 use Rattle.exchanges.specs.declared.latest.Latest.{Latest}
 use Rattle.exchanges.specs.Lives.{lives_of}
 use Rattle.exchanges.specs.Next.{next, IsLatest}

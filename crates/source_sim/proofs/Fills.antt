@@ -18,7 +18,7 @@ use Rattle.core_term.specs.Rows.{number_of}
 use Rattle.core_term.specs.Names.{is_good_name}
 use Rattle.core_term.specs.Sized.{port_fits, process_fits, is_sized}
 use Rattle.std.proofs.lemmas.Bool.Decides.{nat_tests}
-use Rattle.core_term.proofs.source_runs.Offers.{and_first, and_second}
+use Rattle.run_laws.proofs.source_runs.Offers.{and_first, and_second}
 use Rattle.exchanges.specs.declared.latest.Latest.{Latest}
 use Rattle.exchanges.specs.Next.{next}
 use Rattle.sim_laws.specs.declared.drive.Drive.{Drive}

@@ -14,7 +14,7 @@ use Rattle.core_term.specs.Rows.{nth_cell, cells_fit}
 use Rattle.core_term.specs.Term as term
 use Rattle.core_term.specs.Term.{Expr, Term, Act, site}
 use Rattle.core_term.specs.Widths.{Widths, expr_width}
-use Rattle.core_term.proofs.source_runs.Offers.{and_second}
+use Rattle.run_laws.proofs.source_runs.Offers.{and_second}
 use Rattle.sim_laws.specs.declared.act_state.ActState.{ActState}
 use Rattle.sim_laws.specs.Advance.{Advanced, zero_bit, state_at, evaluate, visit_state, visit, go_on_state, begin_state, close_with, close}
 use Rattle.sim_laws.specs.Passes.{cleared}

@@ -8,7 +8,7 @@ use Rattle.core_term.specs.declared.term.CoreTerm.{CoreTerm}
 use Rattle.core_term.specs.Names.{is_good_name}
 use Rattle.core_term.specs.ProcessView.{port_of, process_of}
 use Rattle.core_term.specs.Sized.{is_sized, process_fits, port_fits}
-use Rattle.core_term.proofs.source_runs.Offers.{and_first, and_second}
+use Rattle.run_laws.proofs.source_runs.Offers.{and_first, and_second}
 
 pub ports_fit : (name : List ℕ) (ports : List CorePort) (regs : List CoreReg) (bodies : List CoreTerm) → IsTrue (is_sized name ports regs bodies) → IsTrue (list_all port_fits (map port_of ports))
 ports_fit name ports regs bodies sized =

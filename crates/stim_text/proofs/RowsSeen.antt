@@ -10,10 +10,10 @@ use Rattle.core_term.specs.declared.rows.OutCell.TheVariants as outgoing
 use Rattle.core_term.specs.declared.rows.OutRow.{OutRow}
 use Rattle.core_term.specs.declared.rows.Row.{Row}
 use Rattle.core_term.specs.Process.{Port, Process, nth_port, is_received}
-use Rattle.core_term.specs.OneRun.{SameWires}
+use Rattle.run_laws.specs.OneRun.{SameWires}
 use Rattle.core_term.specs.Rows.{number_of, nth_cell, nth_row, valid_in, data_in, ack_in, cell_fits, cells_fit, inputs_of}
 use Rattle.core_term.specs.Wires.{Wires}
-use Rattle.core_term.proofs.source_runs.Offers.{and_first, and_second}
+use Rattle.run_laws.proofs.source_runs.Offers.{and_first, and_second}
 use Rattle.stim_text.specs.LogLine.{PortWires, wires_at}
 use Rattle.stim_text.specs.Seen.{nth_out, driven_by, data_by, wires_seen, ShowsRows}
 use Rattle.stim_text.specs.Watching.{out_cell_fits, out_cells_fit}

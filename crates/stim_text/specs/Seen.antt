@@ -8,7 +8,7 @@ use Rattle.core_term.specs.declared.rows.OutCell.TheVariants as outgoing
 use Rattle.core_term.specs.Process.{Process, is_received}
 use Rattle.core_term.specs.Rows.{inputs_of}
 use Rattle.core_term.specs.Wires.{Wires}
-use Rattle.core_term.specs.OneRun.{SameWires}
+use Rattle.run_laws.specs.OneRun.{SameWires}
 
 abbrev pub nth_out : List OutRow → ℕ → List OutCell
 nth_out [] t = []

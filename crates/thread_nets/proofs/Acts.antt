@@ -12,7 +12,7 @@ use Rattle.core_term.specs.Operators.{operate}
 use Rattle.core_term.specs.Sized.{parts_fit}
 use Rattle.core_term.specs.View.{act_of}
 use Rattle.core_term.specs.Widths.{Widths, expr_width}
-use Rattle.core_term.proofs.turn_points.Idle.{act_site, act_size_positive}
+use Rattle.core_term.proofs.code_tables.FirstSites.{act_site, act_size_positive}
 use Rattle.anvil_bits.specs.Operators.{not_of, choice_of}
 use Rattle.sv_tree.specs.Module.{Module}
 use Rattle.module_nets.specs.declared.signal.Signal.{Signal}

@@ -11,7 +11,7 @@ use Rattle.core_term.specs.Process.{Process, Thread, IsThread}
 use Rattle.core_term.specs.AcceptedFile.{process_in, file_of}
 use Rattle.core_term.specs.Rules.{Meets, KeepsDemands}
 use Rattle.core_term.specs.Violations.{IsNth}
-use Rattle.core_term.specs.Accepted.{AllKeepDemands}
+use Rattle.run_laws.specs.Accepted.{AllKeepDemands}
 use Rattle.demand_checks.specs.Thread.{nth_thread, body_of}
 use Rattle.send_check.proofs.Truth.{and_first, and_second}
 use Rattle.timing_check.specs.OfThread.{IsFirstOfAll}

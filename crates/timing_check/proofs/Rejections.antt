@@ -11,7 +11,7 @@ use Rattle.core_term.specs.Process.{Process, Thread, IsThread}
 use Rattle.core_term.specs.Rules.{Claim, Demands, Meets, use_by, begin_of, end_of, next_begin_of, made, sets, receives, sends, sends_next, wire_within, wire_until, set_elsewhere, set_here, choice}
 use Rattle.core_term.specs.Graph.{IsOfText}
 use Rattle.core_term.specs.Violations.{Broken, IsBroken, ComesBefore, IsNth}
-use Rattle.core_term.proofs.graph_tables.OfText.{of_text}
+use Rattle.run_laws.proofs.graph_tables.OfText.{of_text}
 use Rattle.demand_checks.specs.Found.{Fails, ComesEarlier}
 use Rattle.demand_checks.proofs.Inside.{point_small}
 use Rattle.demand_checks.proofs.Numbers.{site_below}

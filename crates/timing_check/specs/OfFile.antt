@@ -3,7 +3,7 @@ use Rattle.std.specs.Prelude.{ℕ, ◌≡◌, ◌<◌, ◌⊎◌, List, Option, 
 use Rattle.core_term.specs.Process.{Process, Thread, IsThread}
 use Rattle.core_term.specs.Rules.{Meets, KeepsDemands}
 use Rattle.core_term.specs.Violations.{Broken, IsBroken, ComesBefore, IsNth}
-use Rattle.core_term.specs.Accepted.{AllKeepDemands}
+use Rattle.run_laws.specs.Accepted.{AllKeepDemands}
 use Rattle.timing_check.specs.declared.files.InProcess.{InProcess}
 use Rattle.timing_check.specs.declared.files.InFile.{InFile}
 use Rattle.timing_check.specs.OfThread.{IsFirstOfAll}

@@ -7,7 +7,8 @@ ghost use Rattle.timing_check.specs.Refusal.{IsCause};
 use crate::TimingErr;
 use crate::files::first_of_file;
 use crate::refusal::refusal;
-use core_term::{Accepted, CoreFile};
+use accepted_file::Accepted;
+use core_term::CoreFile;
 use std::alloc::Global;
 
 /// The file as an accepted one, exactly where its list of violations is empty. Then every run of each of its processes is safe, for every

@@ -8,5 +8,6 @@ mod refusal;
 mod threads;
 
 pub use check::check_timing;
-pub use core_term::{Accepted, CoreFile, Rule};
+pub use accepted_file::Accepted;
+pub use core_term::{CoreFile, Rule};
 pub use refusal::TimingErr;

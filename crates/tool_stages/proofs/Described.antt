@@ -14,7 +14,7 @@ use Rattle.sv_tree.specs.Module.{Module}
 use Rattle.core_term.specs.Process.{Process}
 use Rattle.core_term.specs.Rules.{KeepsDemands}
 use Rattle.core_term.specs.Violations.{IsNth}
-use Rattle.core_term.proofs.safe_runs.NoViolations.{from_empty}
+use Rattle.run_laws.proofs.safe_runs.NoViolations.{from_empty}
 use Rattle.machine_meaning.specs.Meaning.{Agrees, LogsAlike}
 use Rattle.checked_files.specs.Check.{IsAcceptedFile, processes_in}
 use Rattle.tool_stages.specs.Output.{IsModule, AreModules, AreModulesOf}

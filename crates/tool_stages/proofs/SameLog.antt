@@ -16,7 +16,7 @@ use Rattle.core_term.specs.History.{history}
 use Rattle.core_term.specs.Process.{Process}
 use Rattle.core_term.specs.Rows.{inputs_of, row_fits}
 use Rattle.core_term.proofs.code_tables.FittingRows.{inputs_fit}
-use Rattle.core_term.proofs.source_runs.Exists.{is_history}
+use Rattle.run_laws.proofs.source_runs.Exists.{is_history}
 use Rattle.stim_text.specs.Answers.{AreRowsOf}
 use Rattle.sv_tree.specs.Module.{Module}
 use Rattle.machine_meaning.specs.Meaning.{HasSameLog, LogsAlike}

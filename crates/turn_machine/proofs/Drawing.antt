@@ -14,10 +14,10 @@ use Rattle.core_term.specs.Points.{Spot, TermBegin, TermEnd, End, NoSide, â—Œisâ
 use Rattle.core_term.specs.Order.{IsFormed}
 use Rattle.core_term.specs.Graph.{HasFormOnce, StandsOnce}
 use Rattle.core_term.specs.Occurs.{SameRule}
-use Rattle.core_term.specs.TurnLaws.{times}
+use Rattle.run_laws.specs.TurnLaws.{times}
 use Rattle.core_term.specs.Reread.{deciding}
-use Rattle.core_term.proofs.turn_points.Text.{one_term}
-use Rattle.core_term.proofs.turn_points.TurnRules.{obeys_rules}
+use Rattle.run_laws.proofs.turn_points.Text.{one_term}
+use Rattle.run_laws.proofs.turn_points.TurnRules.{obeys_rules}
 use Rattle.turn_pulses.specs.TurnGraph.{TurnGraph}
 use Rattle.turn_pulses.specs.PulseMachine.{Seen}
 use Rattle.turn_machine.specs.TailEnds.{TailEnds, tail_ends, is_tail}

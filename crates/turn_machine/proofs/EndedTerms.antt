@@ -11,11 +11,11 @@ use Rattle.core_term.specs.Ends.{Sees, bind, ends, act_ends}
 use Rattle.core_term.specs.Fate.{Fate, Waits, Lost, Runs, fate, inside}
 use Rattle.core_term.specs.Occurs.{At, begin_at, of_outcome}
 use Rattle.core_term.specs.Numbering.{size, act_size, Numbered, NumberedAct}
-use Rattle.core_term.proofs.turn_points.Idle.{Idle, gone as idle_gone}
-use Rattle.core_term.proofs.turn_points.Live.{Agrees}
-use Rattle.core_term.proofs.turn_points.Parts.{one_inner, then_inner, both_inner, both_rest, if_yes_is, if_no_is, block_in, runs_here}
-use Rattle.core_term.proofs.turn_points.Order.{from}
-use Rattle.core_term.proofs.turn_points.Tails.{chain_parts, both_parts, decided_part, then_rest_is}
+use Rattle.run_laws.proofs.turn_points.Idle.{Idle, gone as idle_gone}
+use Rattle.run_laws.proofs.turn_points.Live.{Agrees}
+use Rattle.run_laws.proofs.turn_points.Parts.{one_inner, then_inner, both_inner, both_rest, if_yes_is, if_no_is, block_in, runs_here}
+use Rattle.run_laws.proofs.turn_points.Order.{from}
+use Rattle.run_laws.proofs.turn_points.Tails.{chain_parts, both_parts, decided_part, then_rest_is}
 
 module _ (inputs : Inputs) (view : Sees) (run : ℕ → Fate) where
   -- an act that has begun has ended by a cycle, and so has its term

@@ -12,7 +12,7 @@ use Rattle.core_term.specs.Points.{Spot, TermBegin, TermEnd, Begin, End, forms, 
 use Rattle.core_term.specs.Order.{IsFormed}
 use Rattle.core_term.specs.Graph.{HasFormOnce, StandsOnce}
 use Rattle.core_term.proofs.code_tables.Acting.{each_site}
-use Rattle.core_term.proofs.graph_tables.OfText.{in_left, part}
+use Rattle.run_laws.proofs.graph_tables.OfText.{in_left, part}
 
 begin_here : (term : Term) → IsFormed (forms term) (Begin (site (head term))) (Same (TermBegin (site (head term))))
 begin_here (One act) = inl refl

@@ -10,8 +10,8 @@ use Rattle.core_term.specs.Tail.{IsTail, IsTailAct}
 use Rattle.core_term.specs.Points.{Spot, TermBegin, TermEnd, End, Formed, forms, act_forms}
 use Rattle.core_term.specs.Order.{IsFormed}
 use Rattle.core_term.specs.Graph.{StandsOnce}
-use Rattle.core_term.proofs.turn_points.Idle.{act_site, act_size_positive}
-use Rattle.core_term.proofs.graph_tables.OfText.{in_left, in_right}
+use Rattle.core_term.proofs.code_tables.FirstSites.{act_site, act_size_positive}
+use Rattle.run_laws.proofs.graph_tables.OfText.{in_left, in_right}
 use Rattle.turn_pulses.specs.TurnGraph.{TurnGraph, IsNode, IsTailNode, IsTurnGraph}
 use Rattle.turn_machine.specs.TailEnds.{TailEnds, AreTailEnds, AreTailEndsIn, NoTailEnds, tail_ends, is_tail}
 use Rattle.turn_machine.specs.OneTurn.{IsTurnBody, turn_points, point_of, turn_graph}

@@ -11,9 +11,9 @@ use Rattle.core_term.specs.Ends.{Sees}
 use Rattle.core_term.specs.Tail.{IsTail}
 use Rattle.core_term.specs.Acts.{Asks}
 use Rattle.core_term.specs.Reread.{deciding}
-use Rattle.core_term.specs.TurnLaws.{Takes}
-use Rattle.core_term.proofs.turn_points.Idle.{idle_not, gone as idle_gone}
-use Rattle.core_term.proofs.turn_points.TurnRules.{obeys_rules}
+use Rattle.run_laws.specs.TurnLaws.{Takes}
+use Rattle.run_laws.proofs.turn_points.Idle.{idle_not, gone as idle_gone}
+use Rattle.run_laws.proofs.turn_points.TurnRules.{obeys_rules}
 use Rattle.turn_machine.specs.Draws.{IsSideOf, OfAct}
 use Rattle.turn_machine.proofs.Turns.{at, RunsAt, runs_at, begin_is, rule}
 

@@ -7,8 +7,8 @@ use Rattle.core_term.specs.Term.{Term, One, Then, Both, Act, site, head}
 use Rattle.core_term.specs.Numbering.{size, act_size, Numbered, NumberedAct}
 use Rattle.core_term.specs.Tail.{IsTail, IsTailAct}
 use Rattle.core_term.specs.Stands.{Stands, StandsIn, here, in_one, in_then, after_then, in_both, after_both, in_yes, in_no, in_when, in_block}
-use Rattle.core_term.proofs.turn_points.Idle.{act_site}
-use Rattle.core_term.proofs.turn_points.Text.{acts_in}
+use Rattle.core_term.proofs.code_tables.FirstSites.{act_site}
+use Rattle.run_laws.proofs.turn_points.Text.{acts_in}
 use Rattle.turn_machine.specs.TailEnds.{TailEnds, AreTailEnds, AreTailEndsIn}
 
 module _ (ends : TailEnds) where

@@ -6,8 +6,8 @@ use Rattle.std.proofs.Common.{◌≡◌, ℕ, ◌+◌, ◌<◌, ◌≤◌, arith
 use Rattle.std.proofs.lemmas.Bool.Decides.{nat_tests}
 use Rattle.core_term.specs.Term.{Term, One, Then, Both, Act, Cycle, Set, Send, Recv, If, When, Block, Wait, Pure, Nothing, site, head}
 use Rattle.core_term.specs.Numbering.{size, act_size, Numbered, NumberedAct}
-use Rattle.core_term.proofs.turn_points.Idle.{head_site, act_site, size_positive, act_size_positive}
-use Rattle.core_term.proofs.turn_points.Live.{pick_lt, pick_ge, pick_eq, pick_ne}
+use Rattle.core_term.proofs.code_tables.FirstSites.{head_site, act_site, size_positive, act_size_positive}
+use Rattle.run_laws.proofs.turn_points.Live.{pick_lt, pick_ge, pick_eq, pick_ne}
 use Rattle.turn_machine.specs.TailEnds.{TailEnds, AreTailEnds, AreTailEndsIn, is_tail_act, is_tail_act_in, is_tail_term, is_tail_term_in, tail_ends}
 
 same_site : (place : ℕ) → (place == place) ≡ true

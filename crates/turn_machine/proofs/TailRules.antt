@@ -11,7 +11,7 @@ use Rattle.core_term.specs.Numbering.{size, act_size, OneOf, Numbered, NumberedA
 use Rattle.core_term.specs.Tail.{Names, NamesIn, IsTail, IsTailAct}
 use Rattle.core_term.specs.Points.{TermEnd, Spot, Formed, forms, act_forms}
 use Rattle.core_term.specs.Order.{IsFormed}
-use Rattle.core_term.proofs.turn_points.Idle.{head_site, act_site, size_positive, act_size_positive}
+use Rattle.core_term.proofs.code_tables.FirstSites.{head_site, act_site, size_positive, act_size_positive}
 use Rattle.turn_machine.specs.TailEnds.{TailEnds, AreTailEnds, AreTailEndsIn, NoTailEnds, is_tail}
 
 -- the point is no end of a term, so a join there is a wait and not the end of a chain

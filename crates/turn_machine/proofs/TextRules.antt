@@ -10,7 +10,7 @@ use Rattle.core_term.specs.Stands.{Stands, StandsIn, here, in_one, in_then, afte
 use Rattle.core_term.specs.Acts.{OnPort}
 use Rattle.core_term.specs.Points.{Spot, TermBegin, Begin, End, NoSide, Formed, forms, act_forms}
 use Rattle.core_term.specs.Order.{IsFormed}
-use Rattle.core_term.proofs.graph_tables.OfText.{in_left, in_right}
+use Rattle.run_laws.proofs.graph_tables.OfText.{in_left, in_right}
 use Rattle.turn_machine.specs.Draws.{IsChainJoin}
 use Rattle.turn_machine.proofs.TailRules.{is_no_chain}
 

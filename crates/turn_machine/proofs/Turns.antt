@@ -18,13 +18,13 @@ use Rattle.core_term.specs.Turns.{no_variable, next_begin, begin_after, begins, 
 use Rattle.core_term.specs.Order.{IsFormed, spot_site}
 use Rattle.core_term.specs.Tail.{IsTail, IsTailAct}
 use Rattle.core_term.specs.Reread.{deciding}
-use Rattle.core_term.specs.TurnLaws.{times}
-use Rattle.core_term.proofs.turn_points.Idle.{idle_not, later as idle_later, gone as idle_gone}
-use Rattle.core_term.proofs.turn_points.Order.{next_from, body_end, from, act_from}
-use Rattle.core_term.proofs.turn_points.Strict.{takes, act_takes}
-use Rattle.core_term.proofs.turn_points.Placed.{some_start, begins_short, begin_since, turn_end}
-use Rattle.core_term.proofs.rereading.Decide.{within as is_within}
-use Rattle.core_term.proofs.turn_points.TurnRules.{obeys_rules}
+use Rattle.run_laws.specs.TurnLaws.{times}
+use Rattle.run_laws.proofs.turn_points.Idle.{idle_not, later as idle_later, gone as idle_gone}
+use Rattle.run_laws.proofs.turn_points.Order.{next_from, body_end, from, act_from}
+use Rattle.run_laws.proofs.turn_points.Strict.{takes, act_takes}
+use Rattle.run_laws.proofs.turn_points.Placed.{some_start, begins_short, begin_since, turn_end}
+use Rattle.run_laws.proofs.rereading.Decide.{within as is_within}
+use Rattle.run_laws.proofs.turn_points.TurnRules.{obeys_rules}
 use Rattle.turn_machine.specs.TailEnds.{TailEnds, is_tail, tail_ends}
 use Rattle.turn_machine.proofs.TailEnds.{tail_ends_are}
 use Rattle.turn_machine.proofs.Windows.{Fits, FitsIn, Falls, all_fit}

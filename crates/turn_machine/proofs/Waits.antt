@@ -8,7 +8,7 @@ use Rattle.core_term.specs.Numbering.{Numbered}
 use Rattle.core_term.specs.Ends.{Sees}
 use Rattle.core_term.specs.Tail.{IsTail}
 use Rattle.core_term.specs.Reread.{deciding}
-use Rattle.core_term.proofs.turn_points.TurnRules.{obeys_rules}
+use Rattle.run_laws.proofs.turn_points.TurnRules.{obeys_rules}
 use Rattle.turn_machine.specs.Draws.{IsEndedBy, OfAct}
 use Rattle.turn_machine.proofs.Turns.{at, runs_at, begin_is}
 

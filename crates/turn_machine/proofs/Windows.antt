@@ -13,12 +13,12 @@ use Rattle.core_term.specs.Fate.{Fate, Waits, Lost, Runs, fate, inside}
 use Rattle.core_term.specs.Occurs.{At, of_outcome}
 use Rattle.core_term.specs.Numbering.{size, act_size, Numbered, NumberedAct}
 use Rattle.core_term.specs.Tail.{IsTail, IsTailAct}
-use Rattle.core_term.proofs.turn_points.Idle.{act_site}
-use Rattle.core_term.proofs.turn_points.Live.{Agrees}
-use Rattle.core_term.proofs.turn_points.Parts.{one_inner, then_inner, both_inner, both_rest, if_yes_is, if_no_is, block_in, runs_here}
-use Rattle.core_term.proofs.turn_points.Order.{act_from}
-use Rattle.core_term.proofs.turn_points.Strict.{takes, act_takes}
-use Rattle.core_term.proofs.turn_points.Tails.{chain_parts, both_parts, decided_part, then_rest_is}
+use Rattle.core_term.proofs.code_tables.FirstSites.{act_site}
+use Rattle.run_laws.proofs.turn_points.Live.{Agrees}
+use Rattle.run_laws.proofs.turn_points.Parts.{one_inner, then_inner, both_inner, both_rest, if_yes_is, if_no_is, block_in, runs_here}
+use Rattle.run_laws.proofs.turn_points.Order.{act_from}
+use Rattle.run_laws.proofs.turn_points.Strict.{takes, act_takes}
+use Rattle.run_laws.proofs.turn_points.Tails.{chain_parts, both_parts, decided_part, then_rest_is}
 use Rattle.turn_machine.specs.TailEnds.{TailEnds, AreTailEnds, AreTailEndsIn}
 use Rattle.turn_machine.proofs.EndedTerms.{Ended, EndedIn, act_ended}
 

@@ -13,7 +13,7 @@ use Rattle.core_term.specs.Acts.{OnPort}
 use Rattle.core_term.specs.Points.{Spot, TermBegin, TermEnd, Begin, End, NoSide, forms}
 use Rattle.core_term.specs.Order.{IsFormed}
 use Rattle.core_term.specs.Occurs.{At}
-use Rattle.core_term.specs.TurnLaws.{times, answer}
+use Rattle.run_laws.specs.TurnLaws.{times, answer}
 use Rattle.turn_pulses.specs.TurnGraph.{TurnGraph}
 use Rattle.turn_pulses.specs.PulseMachine.{Seen}
 use Rattle.turn_machine.specs.TailEnds.{tail_ends, is_tail}

@@ -7,7 +7,7 @@ use Rattle.core_term.specs.Ends.{Sees}
 use Rattle.core_term.specs.Tail.{IsTail}
 use Rattle.core_term.specs.Points.{Spot}
 use Rattle.core_term.specs.Occurs.{At}
-use Rattle.core_term.specs.TurnLaws.{times}
+use Rattle.run_laws.specs.TurnLaws.{times}
 use Rattle.core_term.specs.Reread.{deciding}
 use Rattle.turn_pulses.specs.TurnGraph.{TurnGraph, IsTurnGraph}
 use Rattle.turn_pulses.specs.PulseMachine.{Seen, PulseMachine, IsPulseMachine}

@@ -31,7 +31,7 @@ use Rattle.core_term.specs.Stands.{Stands}
 use Rattle.core_term.specs.Acts.{OnPort}
 use Rattle.core_term.specs.Points.{Spot, TermBegin, TermEnd, Begin, End, NoSide, Formed, ◌is◌, forms}
 use Rattle.core_term.specs.Graph.{StandsOnce}
-use Rattle.core_term.specs.TurnLaws.{answer}
+use Rattle.run_laws.specs.TurnLaws.{answer}
 use Rattle.core_term.specs.Reread.{deciding}
 use Rattle.turn_pulses.specs.TurnGraph.{TurnGraph, IsTurnGraph}
 use Rattle.turn_pulses.specs.PulseMachine.{Seen}

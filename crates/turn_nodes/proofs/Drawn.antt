@@ -7,7 +7,7 @@ use Rattle.core_term.specs.Term.{Term, One, Then, Both, Act, Cycle, Set, Send, R
 use Rattle.core_term.specs.Numbering.{Numbered}
 use Rattle.core_term.specs.Points.{Spot, TermEnd, Begin, End, NoSide, Formed, ◌is◌, forms, act_forms}
 use Rattle.core_term.specs.Order.{IsFormed}
-use Rattle.core_term.proofs.graph_tables.OfText.{in_left, in_right}
+use Rattle.run_laws.proofs.graph_tables.OfText.{in_left, in_right}
 use Rattle.event_graph.specs.declared.node.Arm.{Arm}
 use Rattle.event_graph.specs.Forms.{form_at, form_in}
 use Rattle.event_points.specs.Owned.{begin_of, end_of, owned, owned_of, count, count_of, drawn, drawn_all}

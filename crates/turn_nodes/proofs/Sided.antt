@@ -6,7 +6,7 @@ use Rattle.core_term.specs.Numbering.{size, act_size, Numbered, NumberedAct}
 use Rattle.core_term.specs.Points.{Spot, Begin, NoSide, Formed, forms, act_forms}
 use Rattle.core_term.specs.Order.{IsFormed}
 use Rattle.core_term.specs.Stands.{Stands}
-use Rattle.core_term.proofs.graph_tables.OfText.{in_left, part}
+use Rattle.run_laws.proofs.graph_tables.OfText.{in_left, part}
 use Rattle.event_graph.specs.declared.node.Arm.{Arm}
 use Rattle.event_points.specs.Owned.{begin_of}
 use Rattle.event_points.specs.Placed.{Lies, LiesAct, arm}

@@ -5,7 +5,7 @@ use Rattle.core_term.specs.Term.{Term, One, Then, Both, Act, Cycle, Set, Send, R
 use Rattle.core_term.specs.Numbering.{size, act_size, Numbered, NumberedAct}
 use Rattle.core_term.specs.Stands.{Stands, StandsIn, here, in_one, in_then, after_then, in_both, after_both, in_yes, in_no, in_when, in_block}
 use Rattle.core_term.specs.Acts.{IsAt}
-use Rattle.core_term.proofs.turn_points.Idle.{act_site}
+use Rattle.core_term.proofs.code_tables.FirstSites.{act_site}
 
 -- a term at its place, and what stands in it
 abbrev Found : List Act → Term → ℕ → Type 0

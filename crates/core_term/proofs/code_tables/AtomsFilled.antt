@@ -20,9 +20,8 @@ use Rattle.core_term.specs.View.{expr_of, term_of, act_of, after_act}
 use Rattle.core_term.specs.Sources.{Source, ChoiceOf, bind_sources, expr_sources, sources, act_sources, sources_in}
 use Rattle.core_term.specs.Atoms.{source_of, AreAtoms, each_act, each_act_in, AreAll}
 use Rattle.core_term.specs.AtomTables.{Table, settled, row_at, put_row, expr_atoms, last_site, close_block, close_if, add_values, add_value}
-use Rattle.core_term.proofs.turn_points.Idle.{act_site}
-use Rattle.core_term.proofs.code_tables.Fits.{has_left, has_right}
-use Rattle.core_term.proofs.turn_points.Sound.{has_either}
+use Rattle.core_term.proofs.code_tables.FirstSites.{act_site}
+use Rattle.core_term.proofs.code_tables.Fits.{has_left, has_right, has_either}
 use Rattle.core_term.proofs.code_tables.Settled.{settled_ascends, settled_has, has_settled}
 
 -- Rows that have exactly some sources, in any order.

@@ -17,7 +17,7 @@ use Rattle.core_term.specs.Body.{IsBody}
 use Rattle.core_term.specs.Rules.{RestsOn}
 use Rattle.core_term.specs.Atoms.{source_of, AreAtoms, use_sources, each_act, each_act_in, AreAtomsAt, AreAll}
 use Rattle.core_term.specs.AtomTables.{Table, settled, row_at, used_atoms, uses_of, uses_in, add_values}
-use Rattle.core_term.proofs.turn_points.Idle.{act_site}
+use Rattle.core_term.proofs.code_tables.FirstSites.{act_site}
 use Rattle.core_term.proofs.code_tables.AtomsFilled.{KnowsBelow, all_append, are_atoms, nothing, bind_same, bind_other, expr_same, each_length, each_length_in, values_filled}
 
 -- the rows from a site on are exactly these

@@ -41,6 +41,11 @@ pub has_right : {A : Type 0} (xs ys : List A) (a : A) → Has ys a → Has (xs +
 has_right [] ys a i = i
 has_right (x ∷ xs) ys a i = inr (has_right xs ys a i)
 
+pub has_either : {A : Type 0} (these those : List A) (a : A) → Has (these ++ those) a → Has these a ⊎ Has those a
+has_either [] those a k = inr k
+has_either (c ∷ these) those a (inl e) = inl (inl e)
+has_either (c ∷ these) those a (inr k) = elim (has_either these those a k) [ inl m ↦ inl (inr m) | inr m ↦ inr m ]
+
 -- Terms that stand in a body.
 
 module _ (p : Process) where

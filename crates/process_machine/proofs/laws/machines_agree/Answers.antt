@@ -1,4 +1,4 @@
-use Rattle.core_term.proofs.rereading.Agreed.{agrees}
+use Rattle.run_laws.proofs.rereading.Agreed.{agrees}
 use Rattle.process_machine.specs.Rereads.{run_of_machine}
 use Rattle.process_machine.proofs.Rereads.{is_reread}
 use Rattle.process_machine.proofs.laws.machines_agree.Goals as goal

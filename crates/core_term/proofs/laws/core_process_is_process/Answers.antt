@@ -1,5 +1,0 @@
-use Rattle.core_term.proofs.code_tables.Fits.{is_process}
-use Rattle.core_term.proofs.laws.core_process_is_process.Goals as goal
-
-pub returns : goal.returns
-returns c = λ name ports registers threads sized owned bodies. is_process name ports registers threads sized owned bodies

@@ -1,6 +1,0 @@
--- The law of rows that fit.
-use Rattle.core_term.proofs.code_tables.FittingRows.{inputs_fit}
-use Rattle.core_term.proofs.laws.rows_give_fitting_inputs.Goals as goal
-
-pub returns : goal.returns
-returns c = inputs_fit

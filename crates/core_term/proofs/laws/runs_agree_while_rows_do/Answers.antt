@@ -1,9 +1,0 @@
-use Rattle.core_term.proofs.source_runs.SameRuns.{registers_same}
-use Rattle.core_term.proofs.source_runs.SameWires.{wires_same}
-use Rattle.core_term.proofs.laws.runs_agree_while_rows_do.Goals as goal
-
-pub returns : goal.returns
-returns c = λ p inputs other registers registers' history history' n rows. (
-  λ t l r. registers_same p inputs other registers registers' history history' n rows t r l,
-  λ t l. wires_same p inputs other registers registers' history history' n rows t l,
-)

@@ -1,5 +1,0 @@
-use Rattle.core_term.proofs.safe_runs.SafeRun.{safe, no_violations}
-use Rattle.core_term.proofs.safety.without_violations_runs_are_safe.Goals as goal
-
-pub returns : goal.returns
-returns c = λ file violations i p nth process inputs registers history. safe p process (no_violations file violations i p nth) inputs registers

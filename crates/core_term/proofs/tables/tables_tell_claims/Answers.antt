@@ -1,5 +1,0 @@
-use Rattle.core_term.proofs.graph_tables.Told.{shown, told}
-use Rattle.core_term.proofs.tables.tables_tell_claims.Goals as goal
-
-pub returns : goal.returns
-returns c = λ p body g graph t claim text. (shown p body g graph t claim text, told p body g graph t claim text)

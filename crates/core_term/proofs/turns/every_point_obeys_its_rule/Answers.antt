@@ -1,5 +1,0 @@
-use Rattle.core_term.proofs.turn_points.TurnRules.{obeys_rules}
-use Rattle.core_term.proofs.turns.every_point_obeys_its_rule.Goals as goal
-
-pub returns : goal.returns
-returns c = λ inputs view body numbered i. obeys_rules inputs view body numbered i
