@@ -5,4 +5,5 @@ use Rattle.sv_tree.specs.Text.{direction_text}
 
 -- `  input logic [0:0] E__M` and the wire, or `output`
 abbrev pub wire_line : (comes_in : Bool) → SvPort → (wire : List ℕ) → List ℕ
-wire_line comes_in port wire = direction_text comes_in ++ (codes "0:0] " ++ (port.endpoint ++ (codes "__" ++ (port.message ++ wire))))
+wire_line comes_in port wire =
+    direction_text comes_in ++ (codes "0:0] " ++ (port.endpoint ++ (codes "__" ++ (port.message ++ wire))))
