@@ -37,26 +37,9 @@ fn put_resets<W: Sink>(module: &SvModule, out: &mut W) -> Result<(), SinkFault>
     ensures { Puts (W.held out.old) (W.held out.new) (W.faults out.old) (W.faults out.new) (flat_map reset_line «module».now.regs) result }
 {
     for register in module.regs() {
-        put_reset(module, register, out)?;
+        put_set(module, register, SvOperand::Lit(register.reset), out)?;
     }
     Ok(())
-}
-
-// `      R <= W'dN;`.
-fn put_reset<W: Sink>(module: &SvModule, register: &SvReg, out: &mut W) -> Result<(), SinkFault>
-    ensures { Puts (W.held out.old) (W.held out.new) (W.faults out.old) (W.faults out.new) (reset_line register.now) result }
-{
-    put_pieces(
-        module,
-        &[
-            Piece::Text(b"      "),
-            Piece::Register(&register.name),
-            Piece::Text(b" <= "),
-            Piece::Literal(register.reset),
-            Piece::Text(b";\n"),
-        ],
-        out,
-    )
 }
 
 // What all registers take at the end of a cycle.
@@ -64,19 +47,19 @@ fn put_nexts<W: Sink>(module: &SvModule, out: &mut W) -> Result<(), SinkFault>
     ensures { Puts (W.held out.old) (W.held out.new) (W.faults out.old) (W.faults out.new) (flat_map (next_line «module».now) (zip «module».now.regs «module».now.nexts)) result }
 {
     for (register, next) in module.regs().iter().zip(module.nexts()) {
-        put_next(module, register, *next, out)?;
+        put_set(module, register, *next, out)?;
     }
     Ok(())
 }
 
-// `      R <= X;`.
-fn put_next<W: Sink>(
+// `      R <= X;`: what a register takes.
+fn put_set<W: Sink>(
     module: &SvModule,
     register: &SvReg,
-    next: SvOperand,
+    taken: SvOperand,
     out: &mut W,
 ) -> Result<(), SinkFault>
-    ensures { Puts (W.held out.old) (W.held out.new) (W.faults out.old) (W.faults out.new) (next_line «module».now (register.now, next)) result }
+    ensures { Puts (W.held out.old) (W.held out.new) (W.faults out.old) (W.faults out.new) (next_line «module».now (register.now, taken)) result }
 {
     put_pieces(
         module,
@@ -84,7 +67,7 @@ fn put_next<W: Sink>(
             Piece::Text(b"      "),
             Piece::Register(&register.name),
             Piece::Text(b" <= "),
-            Piece::Operand(next),
+            Piece::Operand(taken),
             Piece::Text(b";\n"),
         ],
         out,

@@ -1,7 +1,8 @@
 //! The header of a module: its name, clock and reset, and the wires of its ports.
 ghost use Rattle.std.specs.Prelude.{◌≡◌, ◌++◌, flat_map};
 ghost use Rattle.anvil_io.specs.Causes.{Puts};
-ghost use Rattle.sv_tree.specs.Text.{ack_line, closing_line, data_line, direction_text, opening_lines, port_lines, valid_line};
+ghost use Rattle.sv_tree.specs.Text.{closing_line, data_line, direction_text, opening_lines, port_lines};
+ghost use Rattle.sv_writer.specs.Header.{wire_line};
 
 use crate::pieces::{Piece, put_pieces, top_bit};
 use anvil_io::{Sink, SinkFault, put_all};
@@ -45,8 +46,8 @@ fn put_port<W: Sink>(module: &SvModule, port: &SvPort, out: &mut W) -> Result<()
     ensures { Puts (W.held out.old) (W.held out.new) (W.faults out.old) (W.faults out.new) (port_lines port.now) result }
 {
     put_data(module, port, out)?;
-    put_valid(module, port, out)?;
-    put_ack(module, port, out)
+    put_wire_line(module, port, port.received, b"__valid", out)?;
+    put_wire_line(module, port, !port.received, b"__ack", out)
 }
 
 // `  input logic [H:0] E__M__data`.
@@ -68,37 +69,25 @@ fn put_data<W: Sink>(module: &SvModule, port: &SvPort, out: &mut W) -> Result<()
     )
 }
 
-// `  input logic [0:0] E__M__valid`.
-fn put_valid<W: Sink>(module: &SvModule, port: &SvPort, out: &mut W) -> Result<(), SinkFault>
-    ensures { Puts (W.held out.old) (W.held out.new) (W.faults out.old) (W.faults out.new) (valid_line port.now) result }
+// `  input logic [0:0] E__M` and the wire, or `output`.
+fn put_wire_line<'a, W: Sink>(
+    module: &SvModule,
+    port: &'a SvPort,
+    comes_in: bool,
+    wire: &'a [u8],
+    out: &mut W,
+) -> Result<(), SinkFault>
+    ensures { Puts (W.held out.old) (W.held out.new) (W.faults out.old) (W.faults out.new) (wire_line comes_in port.now wire.now) result }
 {
     put_pieces(
         module,
         &[
-            Piece::Text(direction(port.received)),
+            Piece::Text(direction(comes_in)),
             Piece::Text(b"0:0] "),
             Piece::Text(port.endpoint.bytes()),
             Piece::Text(b"__"),
             Piece::Text(port.message.bytes()),
-            Piece::Text(b"__valid"),
-        ],
-        out,
-    )
-}
-
-// `  output logic [0:0] E__M__ack`.
-fn put_ack<W: Sink>(module: &SvModule, port: &SvPort, out: &mut W) -> Result<(), SinkFault>
-    ensures { Puts (W.held out.old) (W.held out.new) (W.faults out.old) (W.faults out.new) (ack_line port.now) result }
-{
-    put_pieces(
-        module,
-        &[
-            Piece::Text(direction(!port.received)),
-            Piece::Text(b"0:0] "),
-            Piece::Text(port.endpoint.bytes()),
-            Piece::Text(b"__"),
-            Piece::Text(port.message.bytes()),
-            Piece::Text(b"__ack"),
+            Piece::Text(wire),
         ],
         out,
     )

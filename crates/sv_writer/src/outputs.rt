@@ -1,7 +1,7 @@
 //! What the outgoing wires of the ports are given.
 ghost use Rattle.std.specs.Prelude.{flat_map, zip};
 ghost use Rattle.anvil_io.specs.Causes.{Puts};
-ghost use Rattle.sv_tree.specs.Text.{ack_assign_line, data_assign_line, out_lines, out_lines_of, valid_assign_line};
+ghost use Rattle.sv_tree.specs.Text.{out_lines, out_lines_of, wire_assign_line};
 
 use crate::pieces::{Piece, put_pieces};
 use anvil_io::{Sink, SinkFault};
@@ -27,22 +27,23 @@ fn put_output<W: Sink>(
     ensures { Puts (W.held out.old) (W.held out.new) (W.faults out.old) (W.faults out.new) (out_lines_of «module».now port.now output) result }
 {
     match output {
-        SvOut::Received { ack } => put_ack_assign(module, port, ack, out),
+        SvOut::Received { ack } => put_wire_assign(module, port, b"__ack", ack, out),
         SvOut::Sent { value, valid } => {
-            put_data_assign(module, port, value, out)?;
-            put_valid_assign(module, port, valid, out)
+            put_wire_assign(module, port, b"__data", value, out)?;
+            put_wire_assign(module, port, b"__valid", valid, out)
         }
     }
 }
 
-// `  assign E__M__ack = X;`.
-fn put_ack_assign<W: Sink>(
+// `  assign E__M` and the wire, ` = X;`.
+fn put_wire_assign<'a, W: Sink>(
     module: &SvModule,
-    port: &SvPort,
-    ack: SvOperand,
+    port: &'a SvPort,
+    wire: &'a [u8],
+    given: SvOperand,
     out: &mut W,
 ) -> Result<(), SinkFault>
-    ensures { Puts (W.held out.old) (W.held out.new) (W.faults out.old) (W.faults out.new) (ack_assign_line «module».now port.now ack) result }
+    ensures { Puts (W.held out.old) (W.held out.new) (W.faults out.old) (W.faults out.new) (wire_assign_line «module».now port.now wire.now given) result }
 {
     put_pieces(
         module,
@@ -51,56 +52,9 @@ fn put_ack_assign<W: Sink>(
             Piece::Text(port.endpoint.bytes()),
             Piece::Text(b"__"),
             Piece::Text(port.message.bytes()),
-            Piece::Text(b"__ack = "),
-            Piece::Operand(ack),
-            Piece::Text(b";\n"),
-        ],
-        out,
-    )
-}
-
-// `  assign E__M__data = X;`.
-fn put_data_assign<W: Sink>(
-    module: &SvModule,
-    port: &SvPort,
-    value: SvOperand,
-    out: &mut W,
-) -> Result<(), SinkFault>
-    ensures { Puts (W.held out.old) (W.held out.new) (W.faults out.old) (W.faults out.new) (data_assign_line «module».now port.now value) result }
-{
-    put_pieces(
-        module,
-        &[
-            Piece::Text(b"  assign "),
-            Piece::Text(port.endpoint.bytes()),
-            Piece::Text(b"__"),
-            Piece::Text(port.message.bytes()),
-            Piece::Text(b"__data = "),
-            Piece::Operand(value),
-            Piece::Text(b";\n"),
-        ],
-        out,
-    )
-}
-
-// `  assign E__M__valid = X;`.
-fn put_valid_assign<W: Sink>(
-    module: &SvModule,
-    port: &SvPort,
-    valid: SvOperand,
-    out: &mut W,
-) -> Result<(), SinkFault>
-    ensures { Puts (W.held out.old) (W.held out.new) (W.faults out.old) (W.faults out.new) (valid_assign_line «module».now port.now valid) result }
-{
-    put_pieces(
-        module,
-        &[
-            Piece::Text(b"  assign "),
-            Piece::Text(port.endpoint.bytes()),
-            Piece::Text(b"__"),
-            Piece::Text(port.message.bytes()),
-            Piece::Text(b"__valid = "),
-            Piece::Operand(valid),
+            Piece::Text(wire),
+            Piece::Text(b" = "),
+            Piece::Operand(given),
             Piece::Text(b";\n"),
         ],
         out,

@@ -18,10 +18,10 @@ loop-register-preserved g c =
     let turn = zip_turn m.regs m.nexts loop.yielded begun loop.register-iterator c.next.new.self c.next.result firsts seconds loop.yielded_by (c.in-Some.register, c.in-Some.next) c.in-Some.is c.next.ensures.steps in
     let there = pair_at m.regs m.nexts (length loop.yielded) c.in-Some.register.now c.in-Some.next.now turn.0 turn.1 (turn.2 c.in-Some.register.now) (turn.3 c.in-Some.next.now) in
     rw (length_push loop.yielded (c.in-Some.register, c.in-Some.next))
-    (line_put (next_line m) (zip m.regs m.nexts) (length loop.yielded) (c.in-Some.register.now, c.in-Some.next.now) _ (g.W.Sink.held loop.out) _ _ _ _ _ there.0 there.1 loop.invariant c.in_ok-put_next.ensures)
+    (line_put (next_line m) (zip m.regs m.nexts) (length loop.yielded) (c.in-Some.register.now, c.in-Some.next.now) _ (g.W.Sink.held loop.out) _ _ _ _ _ there.0 there.1 loop.invariant c.in_ok-put_set.ensures)
 
-pub returns-in_err-put_next : goal.returns-in_err-put_next
-returns-in_err-put_next g c =
+pub returns-in_err-put_set : goal.returns-in_err-put_set
+returns-in_err-put_set g c =
     let m = c.args.module.now in
     let loop = c.loop-register in
     let begun = c.into_iter-register-iterator.result in
@@ -29,7 +29,7 @@ returns-in_err-put_next g c =
     let seconds : iter_rest (zip_second begun) ≡ m.nexts = cc in
     let turn = zip_turn m.regs m.nexts loop.yielded begun loop.register-iterator c.next.new.self c.next.result firsts seconds loop.yielded_by (c.in-Some.register, c.in-Some.next) c.in-Some.is c.next.ensures.steps in
     let there = pair_at m.regs m.nexts (length loop.yielded) c.in-Some.register.now c.in-Some.next.now turn.0 turn.1 (turn.2 c.in-Some.register.now) (turn.3 c.in-Some.next.now) in
-    line_failed (next_line m) (zip m.regs m.nexts) (length loop.yielded) (c.in-Some.register.now, c.in-Some.next.now) _ (g.W.Sink.held loop.out) _ _ _ _ _ _ there.0 there.1 loop.invariant c.from_residual.ensures.0 c.in_err-put_next.ensures
+    line_failed (next_line m) (zip m.regs m.nexts) (length loop.yielded) (c.in-Some.register.now, c.in-Some.next.now) _ (g.W.Sink.held loop.out) _ _ _ _ _ _ there.0 there.1 loop.invariant c.from_residual.ensures.0 c.in_err-put_set.ensures
 
 pub returns : goal.returns
 returns g c =
