@@ -1,6 +1,6 @@
 //! The graph of two turns of a thread.
-use core_term::CoreThread;
 use accepted_file::example::counting_body;
+use core_term::CoreThread;
 use elaborator::elaborate;
 use event_graph::{Bump, Graph, Kind};
 use std::alloc::{AllocError, Global};

@@ -7,7 +7,7 @@ mod files;
 mod refusal;
 mod threads;
 
-pub use check::check_timing;
 pub use accepted_file::Accepted;
+pub use check::check_timing;
 pub use core_term::{CoreFile, Rule};
 pub use refusal::TimingErr;
