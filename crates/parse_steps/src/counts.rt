@@ -4,12 +4,12 @@ ghost use Rattle.std.specs.Prelude.{◌≡◌, ◌<◌, ◌∷◌, [], true, Mat
 ghost use Rattle.anvil_grammar.specs.Limited.{admitted, count_of, empty_tally, is_opening, opened, past_limit, with_one, within_limits};
 ghost use Rattle.anvil_grammar.specs.Limits.{most_open, open_after};
 ghost use Rattle.anvil_grammar.specs.Begun.{most};
-ghost use Rattle.parse_threads.specs.Seen.{begin_of, begun_of};
-ghost use Rattle.anvil_parser.specs.SeenFile.{tally_of};
+ghost use Rattle.parse_steps.specs.Seen.{begin_of, begun_of};
+ghost use Rattle.parse_steps.specs.SeenCounts.{tally_of};
 
+use crate::step::{Begin, Begun};
 use anvil_grammar::{Counted, ParseErr};
 use anvil_lexer::{Mark, Token, TokenKind};
-use parse_threads::{Begin, Begun};
 
 /// The most brackets that may be open at once.
 pub const MOST_OPEN: u32 = 64;

@@ -1,12 +1,12 @@
 //! Reads `logic [ width ]` token by token.
 ghost use Rattle.std.specs.Prelude.{◌≡◌};
 ghost use Rattle.anvil_grammar.specs.Step.{width_step};
-ghost use Rattle.parse_threads.specs.Seen.{IsReached};
-ghost use Rattle.anvil_parser.specs.Seen.{width_state_of, width_of};
+ghost use Rattle.parse_steps.specs.Seen.{IsReached};
+ghost use Rattle.parse_steps.specs.SeenWidth.{width_state_of, width_of};
 
+use crate::step::{Begun, Reached};
 use anvil_grammar::ParseErr;
 use anvil_lexer::{Keyword, Mark, Token, TokenKind};
-use parse_threads::{Begun, Reached};
 
 /// A width in bits with its place.
 #[derive(Clone, Copy)]

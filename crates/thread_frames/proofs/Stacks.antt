@@ -1,9 +1,9 @@
 -- A frame that is pushed after the others lies on top of them, and the last frame lies on top of the others.
 use Rattle.std.proofs.Common.{◌≡◌, ◌+◌, ℕ, List, [], ◌∷◌, ◌++◌, length, slice_get, Some, refl, arith}
 use native.Mathlib.Numerals.{unary_clauses}
-use Rattle.parse_threads.specs.declared.stack.Frame.{Frame}
+use Rattle.thread_frames.specs.declared.stack.Frame.{Frame}
 use Rattle.anvil_grammar.specs.State as states
-use Rattle.parse_threads.specs.SeenThread.{frame_of, frames_onto}
+use Rattle.thread_frames.specs.SeenFrames.{frame_of, frames_onto}
 
 pub frames_onto_last : (frames : List Frame) (last : Frame) (stack : List states.Frame)
     → frames_onto (frames ++ (last ∷ [])) stack ≡ frame_of last ∷ frames_onto frames stack

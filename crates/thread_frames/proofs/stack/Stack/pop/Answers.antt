@@ -1,10 +1,10 @@
 -- The last frame is on top of the others.
 use Rattle.std.proofs.Common.{◌≡◌, ◌+◌, ℕ, List, [], ◌∷◌, ◌++◌, length, Option, Some, None, refl, arith}
 use Rattle.std.specs.Prelude.{MatchOption, option_to_list}
-use Rattle.parse_threads.specs.declared.stack.Frame.{Frame}
-use Rattle.parse_threads.specs.SeenThread.{frame_of, frames_onto}
-use Rattle.parse_threads.proofs.Stacks.{frames_onto_last}
-use Rattle.parse_threads.proofs.stack.Stack.pop.Goals as goal
+use Rattle.thread_frames.specs.declared.stack.Frame.{Frame}
+use Rattle.thread_frames.specs.SeenFrames.{frame_of, frames_onto}
+use Rattle.thread_frames.proofs.Stacks.{frames_onto_last}
+use Rattle.thread_frames.proofs.stack.Stack.pop.Goals as goal
 
 none_left : (frames : List Frame) → length frames ≡ 0 → frames_onto frames [] ≡ []
 none_left [] none = refl

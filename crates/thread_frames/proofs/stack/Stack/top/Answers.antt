@@ -3,11 +3,11 @@ use Rattle.std.proofs.Common.{◌≡◌, ◌-◌, ◌<◌, ℕ, List, [], ◌∷
 use Rattle.std.specs.Prelude.{MatchOption}
 use Rattle.std.proofs.lemmas.Option.{slice_get-get_or}
 use Rattle.std.specs.Option.{option_copied}
-use Rattle.parse_threads.specs.declared.stack.Frame.{Frame}
+use Rattle.thread_frames.specs.declared.stack.Frame.{Frame}
 use Rattle.anvil_grammar.specs.State as states
-use Rattle.parse_threads.specs.SeenThread.{frame_of, frames_onto}
-use Rattle.parse_threads.proofs.Stacks.{top_of}
-use Rattle.parse_threads.proofs.stack.Stack.top.Goals as goal
+use Rattle.thread_frames.specs.SeenFrames.{frame_of, frames_onto}
+use Rattle.thread_frames.proofs.Stacks.{top_of}
+use Rattle.thread_frames.proofs.stack.Stack.top.Goals as goal
 
 got : (first : Frame) (frames : List Frame) (place : ℕ) → place < length (first ∷ frames) → None ≡ slice_get (first ∷ frames) place → ⊥
 got first frames place within is =

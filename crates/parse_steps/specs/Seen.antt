@@ -3,12 +3,12 @@ use Rattle.std.specs.Prelude.{◌≡◌, ◌⊎◌, List, [], ◌∷◌, MatchRe
 use Rattle.anvil_lexer.specs.declared.token.Token.{Token}
 use Rattle.anvil_grammar.specs.declared.error.ParseErr.{ParseErr}
 use Rattle.anvil_grammar.specs.declared.error.ParseErr.TheVariants.{Unexpected, NoMemory}
-use Rattle.parse_threads.specs.declared.step.Begin.{Begin}
-use Rattle.parse_threads.specs.declared.step.Begun.{Begun}
-use Rattle.parse_threads.specs.declared.step.Begun.TheVariants as begun
-use Rattle.parse_threads.specs.declared.step.Reached.{Reached}
-use Rattle.parse_threads.specs.declared.step.Reached.TheVariants as reached
-use Rattle.parse_threads.specs.declared.label.Label.{Label}
+use Rattle.parse_steps.specs.declared.step.Begin.{Begin}
+use Rattle.parse_steps.specs.declared.step.Begun.{Begun}
+use Rattle.parse_steps.specs.declared.step.Begun.TheVariants as begun
+use Rattle.parse_steps.specs.declared.step.Reached.{Reached}
+use Rattle.parse_steps.specs.declared.step.Reached.TheVariants as reached
+use Rattle.parse_steps.specs.declared.label.Label.{Label}
 use Rattle.anvil_grammar.specs.Begun as things
 use Rattle.anvil_grammar.specs.State as states
 use Rattle.anvil_grammar.specs.Step as step
@@ -34,3 +34,7 @@ IsReached next whole token wanted result =
 
 abbrev pub label_of : Label → states.Label
 label_of label = record { name = label.name; at = label.at }
+
+-- what is seen as it is
+abbrev pub same : {T : Type 0} → T → T
+same value = value

@@ -1,7 +1,7 @@
 //! The parts of a thread that wait while one of their own parts is read, the innermost on top.
 ghost use Rattle.std.specs.Prelude.{◌≡◌, ◌∷◌, [], List, IfErr, None, OnOk, MatchOption};
 ghost use Rattle.anvil_grammar.specs.State as states;
-ghost use Rattle.parse_threads.specs.SeenThread.{bound_of, frame_of, stack_of, unbound};
+ghost use Rattle.thread_frames.specs.SeenFrames.{bound_of, frame_of, stack_of, unbound};
 
 use anvil_grammar::ParseErr;
 use anvil_lexer::Name;
