@@ -1,14 +1,14 @@
 //! Reads a register of a process token by token, from behind `reg` to its `;`.
 ghost use Rattle.std.specs.Prelude.{◌≡◌};
 ghost use Rattle.anvil_grammar.specs.Step.{register_of, register_step};
-ghost use Rattle.parse_threads.specs.Seen.{IsReached, label_of};
-ghost use Rattle.anvil_parser.specs.Seen.{register_draft_of, register_state_of, same, width_of};
+ghost use Rattle.parse_steps.specs.Seen.{IsReached, label_of, same};
+ghost use Rattle.parse_processes.specs.SeenParts.{register_draft_of, register_state_of};
+ghost use Rattle.parse_steps.specs.SeenWidth.{width_of};
 
-use crate::width::{Width, WidthState, width_step};
 use anvil_grammar::ParseErr;
 use anvil_lexer::{Mark, Token, TokenKind};
 use anvil_tree::{LiteralText, Register};
-use parse_threads::{Label, Reached, await_mark, goes_on, word};
+use parse_steps::{Label, Reached, Width, WidthState, await_mark, goes_on, width_step, word};
 
 /// What is wanted next in a register, behind its name.
 #[derive(Clone, Copy)]

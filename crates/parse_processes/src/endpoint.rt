@@ -1,13 +1,13 @@
 //! Reads an endpoint of a process token by token, from behind its name to the name of its class.
 ghost use Rattle.std.specs.Prelude.{◌≡◌};
 ghost use Rattle.anvil_grammar.specs.Step.{endpoint_step};
-ghost use Rattle.parse_threads.specs.Seen.{IsReached};
-ghost use Rattle.anvil_parser.specs.Seen.{endpoint_state_of, same};
+ghost use Rattle.parse_steps.specs.Seen.{IsReached, same};
+ghost use Rattle.parse_processes.specs.SeenParts.{endpoint_state_of};
 
 use anvil_grammar::ParseErr;
 use anvil_lexer::{Mark, Token};
 use anvil_tree::{Endpoint, Side};
-use parse_threads::{Label, Reached, await_mark, goes_on, side, word};
+use parse_steps::{Label, Reached, await_mark, goes_on, side, word};
 
 /// What is wanted next in an endpoint, behind its name.
 #[derive(Clone, Copy)]

@@ -1,15 +1,15 @@
 -- How the types for processes are seen as states.
 use Rattle.std.specs.Prelude.{map}
 use Rattle.anvil_tree.specs.View.{term_of}
-use Rattle.anvil_parser.specs.declared.process.ProcessDraft.{ProcessDraft}
-use Rattle.anvil_parser.specs.declared.process.ProcessWanted.{ProcessWanted}
-use Rattle.anvil_parser.specs.declared.process.ProcessWanted.TheVariants as wanted
-use Rattle.anvil_parser.specs.declared.process.ProcessState.{ProcessState}
-use Rattle.anvil_parser.specs.declared.process.ProcessState.TheVariants as process_state
+use Rattle.parse_processes.specs.declared.process.ProcessDraft.{ProcessDraft}
+use Rattle.parse_processes.specs.declared.process.ProcessWanted.{ProcessWanted}
+use Rattle.parse_processes.specs.declared.process.ProcessWanted.TheVariants as wanted
+use Rattle.parse_processes.specs.declared.process.ProcessState.{ProcessState}
+use Rattle.parse_processes.specs.declared.process.ProcessState.TheVariants as process_state
 use Rattle.anvil_grammar.specs.State as states
-use Rattle.parse_threads.specs.Seen.{label_of}
+use Rattle.parse_steps.specs.Seen.{label_of}
 use Rattle.parse_threads.specs.SeenThread.{thread_of}
-use Rattle.anvil_parser.specs.Seen.{endpoint_state_of, register_state_of}
+use Rattle.parse_processes.specs.SeenParts.{endpoint_state_of, register_state_of}
 
 abbrev pub process_parts_of : ProcessDraft → states.ProcessDraft
 process_parts_of draft =

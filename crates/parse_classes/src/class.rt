@@ -4,14 +4,15 @@ ghost use Rattle.anvil_tree.specs.View.{class_of};
 ghost use Rattle.anvil_grammar.specs.Words.{side_of};
 ghost use Rattle.anvil_grammar.specs.State as states;
 ghost use Rattle.anvil_grammar.specs.Step.{class_of_draft, class_step, quietly, side_step, with_message};
-ghost use Rattle.parse_threads.specs.Seen.{IsReached, reached_of};
-ghost use Rattle.anvil_parser.specs.Seen.{class_inside_of, class_parts_of, class_state_of};
+ghost use Rattle.parse_steps.specs.Seen.{IsReached, reached_of};
+ghost use Rattle.parse_classes.specs.SeenClass.{class_inside_of, class_parts_of, class_state_of};
 
 use crate::message::{MessageState, message_step};
 use anvil_grammar::{Counted, ParseErr};
 use anvil_lexer::{Mark, Token, TokenKind};
 use anvil_tree::{Chan, Message};
-use parse_threads::{Label, Reached, await_mark, begins, goes_on, push, side, word};
+use parse_expressions::push;
+use parse_steps::{Label, Reached, await_mark, begins, goes_on, side, word};
 use std::alloc::Global;
 use std::mem;
 

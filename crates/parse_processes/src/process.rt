@@ -3,15 +3,17 @@ ghost use Rattle.std.specs.Prelude.{◌≡◌, MatchResult};
 ghost use Rattle.anvil_tree.specs.View.{process_of, term_of};
 ghost use Rattle.anvil_grammar.specs.State as states;
 ghost use Rattle.anvil_grammar.specs.Step.{begins_endpoint, process_of_draft, process_step, quietly, with_endpoint, with_register, with_thread};
-ghost use Rattle.parse_threads.specs.Seen.{IsReached, reached_of};
-ghost use Rattle.anvil_parser.specs.SeenProcess.{process_inside_of, process_parts_of, process_state_of};
+ghost use Rattle.parse_steps.specs.Seen.{IsReached, reached_of};
+ghost use Rattle.parse_processes.specs.SeenProcess.{process_inside_of, process_parts_of, process_state_of};
 
 use crate::endpoint::{EndpointDraft, EndpointWanted};
 use crate::register::{RegisterState, register_step};
 use anvil_grammar::{Counted, ParseErr};
 use anvil_lexer::{Keyword, Mark, Token, TokenKind};
 use anvil_tree::{Endpoint, Proc, Register, Term};
-use parse_threads::{Label, Reached, Thread, await_mark, begins, goes_on, push, thread_step, word};
+use parse_expressions::push;
+use parse_steps::{Label, Reached, await_mark, begins, goes_on, word};
+use parse_threads::{Thread, thread_step};
 use std::alloc::Global;
 use std::mem;
 
