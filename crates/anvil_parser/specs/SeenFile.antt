@@ -1,30 +1,15 @@
--- How the types for counts and files are seen.
+-- How the types for files are seen.
 use Rattle.std.specs.Prelude.{map, Vec}
 use Rattle.std.specs.declared.alloc.Global.{Global}
 use Rattle.anvil_tree.specs.declared.file.Item.{Item}
 use Rattle.anvil_tree.specs.Tree.{File}
 use Rattle.anvil_tree.specs.View.{item_of}
-use Rattle.anvil_parser.specs.declared.counts.Counts.{Counts}
 use Rattle.anvil_parser.specs.declared.state.State.{State}
 use Rattle.anvil_parser.specs.declared.state.State.TheVariants as file_state
 use Rattle.anvil_parser.specs.declared.state.Reading.{Reading}
 use Rattle.anvil_grammar.specs.State as states
-use Rattle.anvil_grammar.specs.Limited.{Tally}
-use Rattle.anvil_parser.specs.Seen.{class_state_of}
-use Rattle.anvil_parser.specs.SeenProcess.{process_state_of}
-
-abbrev pub tally_of : Counts → Tally
-tally_of counts = record {
-  open_brackets = counts.open_brackets;
-  classes = counts.classes;
-  messages = counts.messages;
-  processes = counts.processes;
-  endpoints = counts.endpoints;
-  registers = counts.registers;
-  threads = counts.threads;
-  acts = counts.acts;
-  nodes = counts.nodes;
-}
+use Rattle.parse_classes.specs.SeenClass.{class_state_of}
+use Rattle.parse_processes.specs.SeenProcess.{process_state_of}
 
 abbrev pub items_of : Vec Item Global → File
 items_of items = map item_of items.items

@@ -1,19 +1,11 @@
 //! The tree of a list of tokens, or the first reason why there is none.
 //!
 //! `parse` goes over the tokens once. `state` says where the reading of a file stands between two tokens, and takes it
-//! on in place; `class`, `message`, `process`, `endpoint`, `register` and `width` read the parts of a file, and
-//! `parse_threads` those of a thread; `counts` keeps the limits.
+//! on in place; `parse_classes` and `parse_processes` read the parts of a file, and the counts of `parse_steps` keep the limits.
 #![tactic(auto)]
 
-mod class;
-mod counts;
-mod endpoint;
-mod message;
 mod parser;
-mod process;
-mod register;
 mod state;
-mod width;
 
 pub use anvil_grammar::{
     Counted, ParseErr, accepted_has_no_refusal, accepted_is_few, acts_are_in_order,

@@ -7,15 +7,16 @@ ghost use Rattle.anvil_tree.specs.Few.{IsFew};
 ghost use Rattle.anvil_tree.specs.Order.{ActsNeverFall, NeverFall, places_of_file};
 ghost use Rattle.anvil_grammar.specs.Refusal.{IsAccepted, IsFirstRefusal, IsSameRefusal};
 ghost use Rattle.anvil_grammar.specs.Limited.{Tally, admitted_with, goes_on, opened, past_limit, refused, take_token, verdict, within_limits};
-ghost use Rattle.parse_threads.specs.Seen.{begun_of};
-ghost use Rattle.anvil_parser.specs.SeenFile.{reading_of, tally_of};
+ghost use Rattle.parse_steps.specs.Seen.{begun_of};
+ghost use Rattle.anvil_parser.specs.SeenFile.{reading_of};
+ghost use Rattle.parse_steps.specs.SeenCounts.{tally_of};
 
-use crate::counts::Counts;
 use crate::state::Reading;
 use anvil_grammar::ParseErr;
 use anvil_lexer::Token;
 use anvil_tree::File;
-use parse_threads::{Begun, Reached, refused};
+use parse_expressions::refused;
+use parse_steps::{Begun, Counts, Reached};
 use std::alloc::Global;
 
 // The counts behind a token and the things that begin with it.

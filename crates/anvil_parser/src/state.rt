@@ -4,15 +4,16 @@ ghost use Rattle.anvil_tree.specs.Tree as tree;
 ghost use Rattle.anvil_tree.specs.View.{item_of};
 ghost use Rattle.anvil_grammar.specs.State as states;
 ghost use Rattle.anvil_grammar.specs.Step.{item_step, quietly, step};
-ghost use Rattle.parse_threads.specs.Seen.{IsReached, reached_of};
+ghost use Rattle.parse_steps.specs.Seen.{IsReached, reached_of};
 ghost use Rattle.anvil_parser.specs.SeenFile.{items_of, reading_of};
 
-use crate::class::{ClassState, class_step};
-use crate::process::{ProcessState, process_step};
 use anvil_grammar::{Counted, ParseErr};
 use anvil_lexer::{Keyword, Token, TokenKind};
 use anvil_tree::Item;
-use parse_threads::{Reached, begins, goes_on, push};
+use parse_classes::{ClassState, class_step};
+use parse_expressions::push;
+use parse_processes::{ProcessState, process_step};
+use parse_steps::{Reached, begins, goes_on};
 use std::alloc::Global;
 use std::mem;
 

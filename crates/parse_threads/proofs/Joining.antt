@@ -4,12 +4,13 @@ use Rattle.anvil_lexer.specs.declared.token.TokenKind.{TokenKind}
 use Rattle.anvil_lexer.specs.declared.token.TokenKind.TheVariants.{Mark}
 use Rattle.anvil_lexer.specs.declared.token.Mark.TheVariants as mark
 use Rattle.anvil_tree.specs.Tree.{Name, Act, Term}
-use Rattle.parse_threads.specs.declared.stack.Joint.{Joint}
-use Rattle.parse_threads.specs.declared.stack.Joint.TheVariants as joint
+use Rattle.thread_frames.specs.declared.stack.Joint.{Joint}
+use Rattle.thread_frames.specs.declared.stack.Joint.TheVariants as joint
 use Rattle.anvil_grammar.specs.State as states
 use Rattle.anvil_grammar.specs.State.{Frame}
 use Rattle.anvil_grammar.specs.Step.{act_step, term_ends}
-use Rattle.parse_threads.specs.SeenThread.{bound_of, unbound, joined_frame, joined_step, linked}
+use Rattle.thread_frames.specs.SeenFrames.{bound_of, unbound, joined_frame, linked}
+use Rattle.parse_threads.specs.SeenThread.{joined_step}
 
 goes_on_joined : (stack : List Frame) (act : Act) (kind : TokenKind) → act_step stack act kind ≡ joined_step (bound_of stack) (unbound stack) act kind
 goes_on_joined (states.binding name ∷ stack) act (Mark mark.Chain) = refl

@@ -1,5 +1,4 @@
--- Stacks of frames, acts and their bound variables, how acts begin, names and marks that are wanted, and expressions inside threads.
-pub mod Stacks
+-- Acts and their bound variables, how acts begin, names and marks that are wanted, and expressions inside threads.
 pub mod Joining
 pub mod Openings
 pub mod Wanted

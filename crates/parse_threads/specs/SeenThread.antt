@@ -14,14 +14,6 @@ use Rattle.anvil_grammar.specs.Begun as things
 use Rattle.anvil_grammar.specs.State as states
 use Rattle.anvil_grammar.specs.Step.{Threaded, unexpected, onward, finished, moves, at_state, term_ends}
 use Rattle.parse_expressions.specs.Seen.{expression_of}
-use Rattle.parse_threads.specs.declared.stack.Frame.{Frame}
-use Rattle.parse_threads.specs.declared.stack.Frame.TheVariants as frame
-use Rattle.parse_threads.specs.declared.stack.Link.{Link}
-use Rattle.parse_threads.specs.declared.stack.Joint.{Joint}
-use Rattle.parse_threads.specs.declared.stack.Joint.TheVariants as joint
-use Rattle.parse_threads.specs.declared.stack.TermFrame.{TermFrame}
-use Rattle.parse_threads.specs.declared.stack.TermFrame.TheVariants as term
-use Rattle.parse_threads.specs.declared.stack.Stack.{Stack}
 use Rattle.parse_threads.specs.declared.thread.TermState.{TermState}
 use Rattle.parse_threads.specs.declared.thread.TermState.TheVariants as in_term
 use Rattle.parse_threads.specs.declared.thread.NameWanted.{NameWanted}
@@ -35,41 +27,8 @@ use Rattle.parse_threads.specs.declared.thread.ThreadState.TheVariants as in_thr
 use Rattle.parse_threads.specs.declared.thread.Thread.{Thread}
 use Rattle.parse_threads.specs.declared.thread.Next.{Next}
 use Rattle.parse_threads.specs.declared.thread.Next.TheVariants as next
-use Rattle.parse_threads.specs.Seen.{begun_of, label_of}
-
-abbrev pub term_frame_of : TermFrame → states.Frame
-term_frame_of (term.FirstSide at condition) = states.first_side at (expr_of condition)
-term_frame_of (term.SecondSide at condition first) = states.second_side at (expr_of condition) (term_of first)
-term_frame_of (term.Blocking at) = states.blocking at
-
-abbrev pub joined_frame : Joint → Option tree.Name → tree.Act → states.Frame
-joined_frame joint.Follow bound act = states.following bound act
-joined_frame joint.Beside bound act = states.besides bound act
-
-abbrev pub link_frame_of : Link → states.Frame
-link_frame_of link = joined_frame link.joint link.bound (act_of link.act)
-
-abbrev pub frame_of : Frame → states.Frame
-frame_of (frame.Term part) = term_frame_of part
-frame_of (frame.Link link) = link_frame_of link
-frame_of (frame.Binding name) = states.binding name
-
--- the last frame of a vector is on top
-abbrev pub frames_onto : List Frame → List states.Frame → List states.Frame
-frames_onto [] stack = stack
-frames_onto (frame ∷ frames) stack = frames_onto frames (frame_of frame ∷ stack)
-
-abbrev pub stack_of : Stack → List states.Frame
-stack_of stack = frames_onto stack.frames.items []
-
--- the variable that waits for an act, where one does, and the frames below it
-abbrev pub bound_of : List states.Frame → Option tree.Name
-bound_of (states.binding name ∷ stack) = Some name
-bound_of stack = None
-
-abbrev pub unbound : List states.Frame → List states.Frame
-unbound (states.binding name ∷ stack) = stack
-unbound stack = stack
+use Rattle.parse_steps.specs.Seen.{begun_of, label_of}
+use Rattle.thread_frames.specs.SeenFrames.{stack_of}
 
 abbrev pub value_frame_of : ValueFrame → states.Frame
 value_frame_of (value.Setting at register) = states.setting at (label_of register)
@@ -160,11 +119,6 @@ joined_step bound stack act (Mark mark.Chain) = moves (states.following bound ac
 joined_step bound stack act (Mark mark.Semicolon) = moves (states.besides bound act ∷ stack) states.term_wanted
 joined_step None stack act (Mark mark.CloseBrace) = term_ends stack (tree.single act)
 joined_step bound stack act kind = unexpected
-
--- the act with its joint and the term behind it
-abbrev pub linked : Joint → Option tree.Name → tree.Act → tree.Term → tree.Term
-linked joint.Follow bound act term = tree.follow bound act term
-linked joint.Beside bound act term = tree.beside bound act term
 
 -- what begins with an act, where the step of its first token is known
 abbrev pub acted : things.Begin → Threaded → Threaded

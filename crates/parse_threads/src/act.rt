@@ -1,90 +1,23 @@
 //! Reads the acts and terms of a thread token by token.
 ghost use Rattle.std.specs.Prelude.{◌≡◌, ◌≢◌, ◌∷◌, List, MatchResult};
 ghost use Rattle.anvil_grammar.specs.State as states;
-ghost use Rattle.anvil_tree.specs.Tree as tree;
 ghost use Rattle.anvil_tree.specs.View.{act_of, expr_of, term_of};
 ghost use Rattle.anvil_grammar.specs.Step.{act_step, expression_step, moves, term_ends, thread_step};
 ghost use Rattle.parse_expressions.specs.Seen.{nodes_of};
-ghost use Rattle.parse_threads.specs.Seen.{begun_of};
-ghost use Rattle.parse_threads.specs.SeenThread.{IsNext, joined_step, link_frame_of, linked, next_of, seen_at, stack_of, term_frame_of, value_frame_of};
+ghost use Rattle.parse_steps.specs.Seen.{begun_of};
+ghost use Rattle.thread_frames.specs.SeenFrames.{link_frame_of, stack_of, term_frame_of};
+ghost use Rattle.parse_threads.specs.SeenThread.{IsNext, joined_step, next_of, seen_at, value_frame_of};
 
-use crate::label::Label;
-use crate::stack::{Frame, Joint, Link, Stack, TermFrame};
-use crate::step::{Begin, Begun};
 use crate::thread::{Next, NextStep, TermState, ThreadState, ValueFrame, waits};
 use anvil_grammar::{Counted, ParseErr};
 use anvil_lexer::{Mark, Name, Token, TokenKind};
 use anvil_tree::{Act, ActKind, Expr, Term};
-use parse_expressions::{Expression, Read, boxed, boxed_pair, first_of, is_mark, refuse, refused};
+use parse_expressions::{Expression, Read, first_of, is_mark, refuse, refused};
+use parse_steps::{Begin, Begun};
 use std::alloc::Global;
-
-// An act with its joint and the term behind it.
-fn linked(alloc: Global, link: Link, term: Term) -> Result<Term, ParseErr>
-    ensures { MatchResult result
-        (λ whole. term_of whole ≡ linked link.joint link.bound (act_of link.act) (term_of term))
-        (λ refusal. refusal ≡ ParseErr.NoMemory) }
-{
-    match boxed(alloc, term) {
-        Ok(term) => match link.joint {
-            Joint::Follow => Ok(Term::Then(link.bound, link.act, term)),
-            Joint::Beside => Ok(Term::Both(link.bound, link.act, term)),
-        },
-        Err(refusal) => refused(link, refusal),
-    }
-}
-
-/// `if c { t }`
-pub fn when(alloc: Global, at: u32, cond: Expr, first: Term) -> Result<Act, ParseErr>
-    ensures { MatchResult result
-        (λ act. act_of act ≡ tree.when at (expr_of cond) (term_of first))
-        (λ refusal. refusal ≡ ParseErr.NoMemory) }
-{
-    match boxed(alloc, first) {
-        Ok(yes) => Ok(Act {
-            at,
-            kind: ActKind::If {
-                cond,
-                yes,
-                no: None,
-            },
-        }),
-        Err(refusal) => refused(cond, refusal),
-    }
-}
-
-// `if c { t } else { t }`
-fn either(alloc: Global, at: u32, cond: Expr, first: Term, second: Term) -> Result<Act, ParseErr>
-    ensures { MatchResult result
-        (λ act. act_of act ≡ tree.either at (expr_of cond) (term_of first) (term_of second))
-        (λ refusal. refusal ≡ ParseErr.NoMemory) }
-{
-    match boxed_pair(alloc, first, second) {
-        Ok((yes, no)) => Ok(Act {
-            at,
-            kind: ActKind::If {
-                cond,
-                yes,
-                no: Some(no),
-            },
-        }),
-        Err(refusal) => refused(cond, refusal),
-    }
-}
-
-// `{ t }`
-fn block(alloc: Global, at: u32, term: Term) -> Result<Act, ParseErr>
-    ensures { MatchResult result
-        (λ act. act_of act ≡ tree.block at (term_of term))
-        (λ refusal. refusal ≡ ParseErr.NoMemory) }
-{
-    match boxed(alloc, term) {
-        Ok(term) => Ok(Act {
-            at,
-            kind: ActKind::Block(term),
-        }),
-        Err(refusal) => Err(refusal),
-    }
-}
+use thread_frames::{
+    Frame, Joint, Link, Stack, TermFrame, block, either, linked, send, set,
+};
 
 // A term is whole, and what waits for it goes on.
 #[tactic(auto, using(crate::proofs::Joining::link_ends))]
@@ -288,47 +221,5 @@ fn decides(stack: &mut Stack, at: u32, condition: Expr, token: &Token) -> NextSt
         waits(stack, Begun::Nothing, frame, TermState::Wanted)
     } else {
         refuse(condition, token)
-    }
-}
-
-// `set r := e`
-fn set(at: u32, register: Label, value: Expr) -> Act
-    ensures { act_of result ≡ tree.set at register.name register.at (expr_of value) }
-{
-    let Label {
-        name: register,
-        at: register_at,
-    } = register;
-    Act {
-        at,
-        kind: ActKind::Set {
-            register,
-            register_at,
-            value,
-        },
-    }
-}
-
-// `send e.m(v)`
-fn send(at: u32, endpoint: Label, message: Label, value: Expr) -> Act
-    ensures { act_of result ≡ tree.send at endpoint.name endpoint.at message.name message.at (expr_of value) }
-{
-    let Label {
-        name: endpoint,
-        at: endpoint_at,
-    } = endpoint;
-    let Label {
-        name: message,
-        at: message_at,
-    } = message;
-    Act {
-        at,
-        kind: ActKind::Send {
-            endpoint,
-            endpoint_at,
-            message,
-            message_at,
-            value,
-        },
     }
 }

@@ -4,13 +4,11 @@ ghost use Rattle.anvil_tree.specs.View.{expr_of, term_of};
 ghost use Rattle.anvil_grammar.specs.State as states;
 ghost use Rattle.anvil_grammar.specs.Step.{begin_step, begin_step_by, else_step, operand_step, quietly, term_step, thread_step_at};
 ghost use Rattle.parse_expressions.specs.Seen.{nodes_of};
-ghost use Rattle.parse_threads.specs.Seen.{begin_of, begun_of};
-ghost use Rattle.parse_threads.specs.SeenThread.{IsNext, acted, begins_by_key, seen_at, stack_of, term_state_of};
+ghost use Rattle.parse_steps.specs.Seen.{begin_of, begun_of};
+ghost use Rattle.thread_frames.specs.SeenFrames.{stack_of};
+ghost use Rattle.parse_threads.specs.SeenThread.{IsNext, acted, begins_by_key, seen_at, term_state_of};
 
-use crate::act::{act_step, when};
-use crate::expect::is_key;
-use crate::stack::{Frame, Stack, TermFrame};
-use crate::step::{Begin, Begun};
+use crate::act::act_step;
 use crate::thread::{
     MarkWanted, NameWanted, Next, NextStep, TermState, ThreadState, ValueFrame, awaits_value, waits,
 };
@@ -18,7 +16,9 @@ use anvil_grammar::Counted;
 use anvil_lexer::{Keyword, Mark, Token, TokenKind};
 use anvil_tree::{Expr, Term};
 use parse_expressions::{Expression, Read, is_mark, refuse, refused};
+use parse_steps::{Begin, Begun, is_key};
 use std::alloc::Global;
+use thread_frames::{Frame, Stack, TermFrame, when};
 
 // How an act begins with the token, where that is the keyword of one.
 fn opening_at(alloc: Global, token: &Token) -> Option<ThreadState>

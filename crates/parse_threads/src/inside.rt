@@ -1,16 +1,11 @@
 //! Reads on inside an act, from behind its keyword to its expression or its end.
 ghost use Rattle.std.specs.Prelude.{◌≡◌, List, MatchResult};
-ghost use Rattle.anvil_tree.specs.Tree as tree;
 ghost use Rattle.anvil_grammar.specs.State as states;
 ghost use Rattle.anvil_grammar.specs.Step.{quietly, thread_step_at};
-ghost use Rattle.parse_threads.specs.Seen.{label_of};
-ghost use Rattle.anvil_tree.specs.View.{act_of};
-ghost use Rattle.parse_threads.specs.SeenThread.{IsNext, mark_of, mark_state_of, marked, name_state_of, named, next_of, seen_at, stack_of};
+ghost use Rattle.parse_steps.specs.Seen.{label_of};
+ghost use Rattle.thread_frames.specs.SeenFrames.{stack_of};
+ghost use Rattle.parse_threads.specs.SeenThread.{IsNext, mark_of, mark_state_of, marked, name_state_of, named, next_of, seen_at};
 
-use crate::expect::word;
-use crate::label::Label;
-use crate::stack::{Frame, Stack, TermFrame};
-use crate::step::Begun;
 use crate::thread::{
     MarkWanted, NameWanted, Next, NextStep, TermState, ThreadState, ValueFrame, awaits_value, waits,
 };
@@ -18,7 +13,9 @@ use anvil_grammar::ParseErr;
 use anvil_lexer::{Mark, Token, TokenKind};
 use anvil_tree::{Act, ActKind};
 use parse_expressions::{is_mark, refuse, refused};
+use parse_steps::{Begun, Label, word};
 use std::alloc::Global;
+use thread_frames::{Frame, Stack, TermFrame, receive};
 
 /// The number of a `cycle`.
 pub fn cycle_step(at: u32, token: &Token) -> NextStep
@@ -37,29 +34,6 @@ pub fn cycle_step(at: u32, token: &Token) -> NextStep
             Ok(Next::Onward(Begun::Nothing, ThreadState::Term(TermState::AfterAct(act))))
         }
         _ => Err(ParseErr::Unexpected { at: token.at }),
-    }
-}
-
-// The act `recv e.m`.
-fn receive(at: u32, endpoint: Label, message: Label) -> Act
-    ensures { act_of result ≡ tree.receive at endpoint.name endpoint.at message.name message.at }
-{
-    let Label {
-        name: endpoint,
-        at: endpoint_at,
-    } = endpoint;
-    let Label {
-        name: message,
-        at: message_at,
-    } = message;
-    Act {
-        at,
-        kind: ActKind::Recv {
-            endpoint,
-            endpoint_at,
-            message,
-            message_at,
-        },
     }
 }
 

@@ -3,21 +3,21 @@ ghost use Rattle.std.specs.Prelude.{◌≡◌, ◌∷◌, [], List, MatchResult}
 ghost use Rattle.anvil_grammar.specs.State as states;
 ghost use Rattle.anvil_grammar.specs.Step.{at_state, onward, thread_step};
 ghost use Rattle.anvil_tree.specs.View.{term_of};
-ghost use Rattle.parse_threads.specs.Seen.{IsReached, begun_of};
-ghost use Rattle.parse_threads.specs.SeenThread.{IsNext, frame_of, next_of, seen_at, stack_of, term_state_of, thread_of, value_frame_of};
+ghost use Rattle.parse_steps.specs.Seen.{IsReached, begun_of};
+ghost use Rattle.thread_frames.specs.SeenFrames.{frame_of, stack_of};
+ghost use Rattle.parse_threads.specs.SeenThread.{IsNext, next_of, seen_at, term_state_of, thread_of, value_frame_of};
 
 use crate::act::value_step;
 use crate::begin::in_term_step;
 use crate::inside::{cycle_step, mark_step, name_step};
-use crate::label::Label;
-use crate::stack::{Frame, Stack};
-use crate::step::{Begun, Reached};
 use anvil_grammar::ParseErr;
 use anvil_lexer::{Name, Token};
 use anvil_tree::{Act, Expr, Term};
 use parse_expressions::{Expression, put, refused};
+use parse_steps::{Begun, Label, Reached};
 use std::alloc::Global;
 use std::mem;
+use thread_frames::{Frame, Stack};
 
 /// What is wanted next in a term.
 #[derive(Drop)]

@@ -1,7 +1,8 @@
 -- The act goes on by its bound variable and the frames below that.
 use Rattle.std.proofs.Common.{subst}
 use Rattle.anvil_tree.specs.View.{act_of}
-use Rattle.parse_threads.specs.SeenThread.{IsNext, stack_of}
+use Rattle.thread_frames.specs.SeenFrames.{stack_of}
+use Rattle.parse_threads.specs.SeenThread.{IsNext}
 use Rattle.parse_threads.proofs.Joining.{act_joined}
 use Rattle.parse_threads.proofs.act.act_step.Goals as goal
 

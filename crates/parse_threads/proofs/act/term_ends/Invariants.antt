@@ -2,7 +2,7 @@
 use Rattle.std.proofs.Common.{◌≡◌, length}
 use Rattle.anvil_tree.specs.View.{term_of}
 use Rattle.anvil_grammar.specs.Step.{term_ends}
-use Rattle.parse_threads.specs.SeenThread.{stack_of}
+use Rattle.thread_frames.specs.SeenFrames.{stack_of}
 use Rattle.parse_threads.proofs.act.term_ends.Given as goal
 
 abbrev pub invariant-loop-frame : goal.invariant-loop-frame

@@ -3,7 +3,8 @@ use Rattle.std.proofs.Common.{◌∷◌, subst, sym}
 use Rattle.anvil_tree.specs.View.{expr_of}
 use Rattle.anvil_grammar.specs.Step.{expression_step}
 use Rattle.parse_expressions.specs.Seen.{expression_of, nodes_of}
-use Rattle.parse_threads.specs.SeenThread.{IsNext, stack_of, value_frame_of}
+use Rattle.thread_frames.specs.SeenFrames.{stack_of}
+use Rattle.parse_threads.specs.SeenThread.{IsNext, value_frame_of}
 use Rattle.parse_threads.proofs.Values.{value_onward, value_refused, value_whole}
 use Rattle.parse_threads.proofs.act.value_step.Goals as goal
 

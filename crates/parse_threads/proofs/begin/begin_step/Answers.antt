@@ -1,6 +1,7 @@
 -- Where the token is neither the keyword of an act nor `{`, the act is an expression.
 use Rattle.std.proofs.Common.{subst}
-use Rattle.parse_threads.specs.SeenThread.{IsNext, stack_of}
+use Rattle.thread_frames.specs.SeenFrames.{stack_of}
+use Rattle.parse_threads.specs.SeenThread.{IsNext}
 use Rattle.parse_threads.proofs.Openings.{expression_begins}
 use Rattle.parse_threads.proofs.begin.begin_step.Goals as goal
 

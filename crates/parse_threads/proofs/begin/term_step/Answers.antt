@@ -1,6 +1,7 @@
 -- Where the token is no `let`, the term begins with an act.
 use Rattle.std.proofs.Common.{sym, subst}
-use Rattle.parse_threads.specs.SeenThread.{IsNext, stack_of}
+use Rattle.thread_frames.specs.SeenFrames.{stack_of}
+use Rattle.parse_threads.specs.SeenThread.{IsNext}
 use Rattle.parse_threads.proofs.Openings.{term_begins}
 use Rattle.parse_threads.proofs.begin.term_step.Goals as goal
 

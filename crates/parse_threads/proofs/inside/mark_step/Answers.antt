@@ -1,5 +1,5 @@
 -- Where the token is the mark that is wanted, it leads where that leads.
-use Rattle.parse_threads.specs.SeenThread.{stack_of}
+use Rattle.thread_frames.specs.SeenFrames.{stack_of}
 use Rattle.parse_threads.proofs.Wanted.{mark_leads}
 use Rattle.parse_threads.proofs.inside.mark_step.Goals as goal
 

@@ -1,0 +1,3 @@
+-- How the types of the crate are seen as the states of a reading.
+pub mod SeenParts
+pub mod SeenProcess

@@ -1,0 +1,2 @@
+-- Stacks of frames.
+pub mod Stacks
