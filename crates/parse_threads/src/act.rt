@@ -15,9 +15,7 @@ use anvil_tree::{Act, ActKind, Expr, Term};
 use parse_expressions::{Expression, Read, first_of, is_mark, refuse, refused};
 use parse_steps::{Begin, Begun};
 use std::alloc::Global;
-use thread_frames::{
-    Frame, Joint, Link, Stack, TermFrame, block, either, linked, send, set,
-};
+use thread_frames::{Frame, Joint, Link, Stack, TermFrame, block, either, linked, send, set};
 
 // A term is whole, and what waits for it goes on.
 #[tactic(auto, using(crate::proofs::Joining::link_ends))]

@@ -46,7 +46,13 @@ pub fn when(alloc: Global, at: u32, cond: Expr, first: Term) -> Result<Act, Pars
 }
 
 /// `if c { t } else { t }`
-pub fn either(alloc: Global, at: u32, cond: Expr, first: Term, second: Term) -> Result<Act, ParseErr>
+pub fn either(
+    alloc: Global,
+    at: u32,
+    cond: Expr,
+    first: Term,
+    second: Term,
+) -> Result<Act, ParseErr>
     ensures { MatchResult result
         (λ act. act_of act ≡ tree.either at (expr_of cond) (term_of first) (term_of second))
         (λ refusal. refusal ≡ ParseErr.NoMemory) }
