@@ -1,11 +1,12 @@
 //! A thread: a body that is numbered and tail-stepped, so that each of its turns takes time.
-ghost use Rattle.std.specs.Prelude.{◌≡◌, ◌<◌, length, slice_index, IfOk};
+ghost use Rattle.std.specs.Prelude.{◌≡◌, ◌<◌, ◌++◌, length, slice_index, IfOk};
 ghost use Rattle.core_term.specs.Numbering.{size};
 ghost use Rattle.core_term.specs.Sources.{act_sources};
 ghost use Rattle.core_term.specs.Widths.{Widths};
 ghost use Rattle.core_term.specs.View.{term_of, places_of};
 ghost use Rattle.core_term.specs.Body.{IsBody};
 ghost use Rattle.core_term.specs.Atoms.{use_sources, AreAtomsAt};
+ghost use Rattle.core_term.specs.AtomTables.{add_values, uses_of};
 
 use crate::atoms::{add_uses, add_values};
 use crate::places::add_places;
@@ -42,6 +43,30 @@ impl Model for CoreThread {
     ghost invariant = { λ t. IsBody t.body × (t.places.items ≡ places_of t.body) × (t.values ≡ add_values [] t.body) × (t.uses ≡ uses_of (add_values [] t.body) t.body) };
 }
 
+/// Adds the places of the acts of a body, and the atoms of their values and uses, at the ends of three tables.
+fn fill(
+    alloc: Global,
+    body: &CoreTerm,
+    places: &mut Vec<u32>,
+    values: &mut AtomTable,
+    uses: &mut AtomTable,
+) -> Result<(), AllocError>
+    ensures places { IfOk result (λ _. places.new.items ≡ places.old.items ++ places_of body.now) }
+    ensures values { IfOk result (λ _. values.new ≡ add_values values.old body.now) }
+    ensures uses { IfOk result (λ _. uses.new ≡ uses.old ++ uses_of values.new body.now) }
+{
+    add_places(body, places)?;
+    add_values(alloc, body, values)?;
+    add_uses(alloc, body, values, uses)
+}
+
+/// The refusal, where a value is let go.
+fn refused<T: Drop, R: Drop>(_value: T, refusal: AllocError) -> Result<R, AllocError>
+    ensures { IfOk result (λ _. ⊥) }
+{
+    Err(refusal)
+}
+
 impl CoreThread {
     /// A thread with this body, which is numbered, tail-stepped, of at most 512 acts and without a `cycle` of 0.
     ///
@@ -51,17 +76,17 @@ impl CoreThread {
         ensures { IfOk result (λ thread. thread ≡ body) }
     {
         let mut places = Vec::new(alloc);
-        add_places(&body, &mut places)?;
         let mut values = AtomTable::new(alloc);
-        add_values(alloc, &body, &mut values)?;
         let mut uses = AtomTable::new(alloc);
-        add_uses(alloc, &body, &values, &mut uses)?;
-        Ok(CoreThread {
-            body,
-            places,
-            values,
-            uses,
-        })
+        match fill(alloc, &body, &mut places, &mut values, &mut uses) {
+            Ok(()) => Ok(CoreThread {
+                body,
+                places,
+                values,
+                uses,
+            }),
+            Err(refusal) => refused((body, places, values, uses), refusal),
+        }
     }
 
     /// The body.
