@@ -108,7 +108,8 @@ fn side_atoms(
     other: u32,
     values: &AtomTable,
 ) -> Result<Vec<SourceAtom>, AllocError>
-    ensures { IfOk result (λ atoms. atoms.items ≡ settled (Choice site ∷ (row_at values.now one ++ row_at values.now other))) }
+    ensures { IfOk result
+        (λ atoms. atoms.items ≡ settled (Choice site ∷ (row_at values.now one ++ row_at values.now other))) }
 {
     let mut atoms = Vec::new(alloc);
     atoms.push(SourceAtom::Choice { site })?;
@@ -210,7 +211,9 @@ fn add_use(
     values: &AtomTable,
     uses: &mut AtomTable,
 ) -> Result<(), AllocError>
-    ensures { IfOk result (λ _. uses.new ≡ uses.old ++ (settled (used_atoms values.now act.now.site act.now.kind) ∷ uses_in values.now act.now.kind)) }
+    ensures { IfOk result
+        (λ _. uses.new ≡ uses.old ++
+        (settled (used_atoms values.now act.now.site act.now.kind) ∷ uses_in values.now act.now.kind)) }
 {
     let used = used_atoms(alloc, act, values)?;
     uses.add(used)?;

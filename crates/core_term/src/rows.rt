@@ -9,8 +9,8 @@ use crate::{CorePort, CoreProc, CoreReg};
 use anvil_bits::Bits;
 use std::alloc::{AllocError, Global};
 
-/// What comes in on a port in a cycle. The value of a received port is what its `data` wire carries, whether it is valid or
-/// not.
+/// What comes in on a port in a cycle. The value of a received port is what its `data` wire carries, whether it is
+/// valid or not.
 #[derive(Clone, Copy, Debug, PartialEq, Eq)]
 pub enum InCell {
     Received { valid: bool, value: Bits },
@@ -43,7 +43,8 @@ impl OutRow {
     /// Refuses only where memory is refused.
     pub fn for_proc(alloc: Global, proc: &CoreProc) -> Result<OutRow, AllocError>
         ensures cells { IfOk result (λ row. row.cells.items ≡ map zero_cell (map port_of proc.now.ports.items)) }
-        ensures registers { IfOk result (λ row. row.regs.items ≡ map zero_register (map register_of proc.now.regs.items)) }
+        ensures registers { IfOk result
+            (λ row. row.regs.items ≡ map zero_register (map register_of proc.now.regs.items)) }
     {
         let cells = zero_cells_of(alloc, proc.ports.as_slice())?;
         let regs = zero_registers_of(alloc, proc.regs.as_slice())?;

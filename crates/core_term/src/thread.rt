@@ -15,8 +15,8 @@ use crate::{CoreTerm, SourceAtom};
 use std::alloc::{AllocError, Global};
 use std::marker::Model;
 
-/// A thread. Contracts see it as its body, and know that the body is numbered, tail-stepped, of at most 512 acts and without
-/// a `cycle` of 0. The places and the atoms of its acts are found once, as it is made.
+/// A thread. Contracts see it as its body, and know that the body is numbered, tail-stepped, of at most 512 acts and
+/// without a `cycle` of 0. The places and the atoms of its acts are found once, as it is made.
 #[derive(Drop)]
 pub struct CoreThread {
     body: CoreTerm,
@@ -40,7 +40,8 @@ impl Model for CoreThread {
 
     ghost view = { λ t. t.body };
 
-    ghost invariant = { λ t. IsBody t.body × (t.places.items ≡ places_of t.body) × (t.values ≡ add_values [] t.body) × (t.uses ≡ uses_of (add_values [] t.body) t.body) };
+    ghost invariant = { λ t. IsBody t.body × (t.places.items ≡ places_of t.body) × (t.values ≡ add_values [] t.body)
+        × (t.uses ≡ uses_of (add_values [] t.body) t.body) };
 }
 
 /// Adds the places of the acts of a body, and the atoms of their values and uses, at the ends of three tables.
@@ -114,7 +115,8 @@ impl CoreThread {
         self.places[site as usize]
     }
 
-    /// The atoms of the value of the act of a site: exactly its sources, ascending and each once. Empty where it has no value.
+    /// The atoms of the value of the act of a site: exactly its sources, ascending and each once. Empty where it has no
+    /// value.
     pub fn value_atoms(&self, site: u32) -> &[SourceAtom]
         requires { site < length (places_of self.now) }
         ensures { (widths : Widths) → AreAtomsAt act_sources (term_of widths self.now) site result.now }
@@ -122,8 +124,8 @@ impl CoreThread {
         self.values.row(site)
     }
 
-    /// The atoms of the expression that a `set`, `send` or `if` uses: exactly its sources, ascending and each once. Empty where
-    /// the act of the site uses none.
+    /// The atoms of the expression that a `set`, `send` or `if` uses: exactly its sources, ascending and each once.
+    /// Empty where the act of the site uses none.
     pub fn use_atoms(&self, site: u32) -> &[SourceAtom]
         requires { site < length (places_of self.now) }
         ensures { (widths : Widths) → AreAtomsAt use_sources (term_of widths self.now) site result.now }
